@@ -1,0 +1,1 @@
+// No code: laws of general use, cited by the proofs of other crates.

@@ -1,0 +1,5 @@
+mod Exits
+pub mod Laws
+pub mod Meaning
+pub mod SignedProducts
+pub mod WidthLaws

@@ -1,0 +1,6 @@
+pub mod Products
+pub mod Shifts
+pub mod Signed
+pub mod Sums
+pub mod Tags
+pub mod Widths

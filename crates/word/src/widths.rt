@@ -1,0 +1,52 @@
+// Operands of less than a word: cut to their width, and extended to a word (1.2).
+use crate::Width;
+use crate::shifts::shl;
+use crate::shifts::shr;
+use crate::shifts::ushr;
+ghost use mathlib.Core.Path.{_≡_};
+ghost use Rattle.word.specs.Widths.{bitsOf, bytesOf, truncateOf, zeroExtendOf, signExtendOf};
+
+// The width in bits.
+pub fn bits(w: Width) -> u32
+    ensures { λ r. ⌜ r ≡ bitsOf w ⌝ }
+{
+    match w {
+        Width::Byte => 8,
+        Width::Half => 16,
+        Width::Word => 32,
+    }
+}
+
+// The width in bytes.
+pub fn bytes(w: Width) -> u32
+    ensures { λ r. ⌜ r ≡ bytesOf w ⌝ }
+{
+    match w {
+        Width::Byte => 1,
+        Width::Half => 2,
+        Width::Word => 4,
+    }
+}
+
+// The low bits of a result.
+pub fn truncate(w: Width, x: u32) -> u32
+    ensures { λ r. ⌜ r ≡ truncateOf (bitsOf w) x ⌝ }
+{
+    let n = 32 - bits(w);
+    ushr(shl(x, n), n)
+}
+
+// The low bits of an unsigned operand, at 32 bits.
+pub fn zero_extend(w: Width, x: u32) -> u32
+    ensures { λ r. ⌜ r ≡ zeroExtendOf (bitsOf w) x ⌝ }
+{
+    truncate(w, x)
+}
+
+// The low bits of a signed operand, at 32 bits.
+pub fn sign_extend(w: Width, x: u32) -> u32
+    ensures { λ r. ⌜ r ≡ signExtendOf (bitsOf w) x ⌝ }
+{
+    let n = 32 - bits(w);
+    shr(shl(x, n), n)
+}
