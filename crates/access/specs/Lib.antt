@@ -1,0 +1,4 @@
+pub mod Parts
+pub mod Data
+pub mod Text
+pub mod Moves

@@ -1,0 +1,1 @@
+// The accesses of an instruction: data, text, frames, and the moves of the stack cache.

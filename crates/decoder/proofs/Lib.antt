@@ -1,0 +1,7 @@
+mod ShortLaws
+mod DyadicLaws
+mod MonadicLaws
+mod FormLaws
+mod RestLaws
+mod TextLaws
+pub mod Laws

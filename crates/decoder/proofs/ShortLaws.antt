@@ -1,0 +1,62 @@
+-- The ways out of the functions that cut fields and decode one parcel.
+-- Assumes nothing.
+use Prim.Native.Nat.{ℕ, _-_, _*_, _/_, _%_, _^_, _<_, _≤_}
+use mathlib.Core.Path.{_≡_, refl, sym, ap, _∙_}
+use native.Mathlib.Nat.{div-one, mod-mod}
+use native.Mathlib.Omega.{arith}
+use Rattle.word.specs.Shifts.{shlOf, shrOf}
+use Rattle.word.specs.Widths.{signExtendOf}
+use Rattle.word.proofs.WidthLaws.{sign-extend-by-shifts}
+use Rattle.isa.specs.declared.ShortRow.{ShortRow}
+use Rattle.isa.specs.declared.FieldMode.{FieldMode}
+use Rattle.isa.specs.declared.ShortEntry.{ShortEntry}
+use Rattle.isa.specs.declared.ShortEntry.the-variants.{Row, Stack, Niladic}
+use Rattle.isa.specs.declared.ShortInstruction.{ShortInstruction}
+use Rattle.isa.specs.declared.Instruction.the-variants.{Short}
+use Rattle.isa.specs.declared.Answer.{Answer}
+use Rattle.isa.specs.declared.Answer.the-variants.{Is}
+use Rattle.isa.specs.Tables.{shortOf, stackOf, niladicOf}
+use Rattle.isa.specs.Fields.{sourceField, destinationField, fieldValue}
+use Rattle.isa.specs.Decode.{shortEntry, shortInstruction, shortAnswer, decodeShort}
+
+-- a field at bit 0
+pub low-bits : (x k r : ℕ) → r ≡ x / 2 ^ 0 % 2 ^ k → r ≡ x % 2 ^ k
+low-bits x k r e = e ∙ simp div-one
+
+-- a number shifted to the top of a word and back, by any n
+pub extended-bits : (n x y r : ℕ) → y ≡ shlOf x n → r ≡ shrOf y n → r ≡ signExtendOf (32 - n % 32) x
+extended-bits n x y r e f =
+    let k : 32 - (32 - n % 32) ≡ n % 32 = omega arith in
+    f ∙ rw e (simp (k, mod-mod) at (sign-extend-by-shifts (32 - n % 32) x (omega arith) (omega arith)))
+
+-- a field f of a known mode k
+pub source-is : (m k : FieldMode) (p f r : ℕ) → m ≡ k → f ≡ sourceField k p → r ≡ fieldValue k f
+    → r ≡ fieldValue m (sourceField m p)
+source-is m k p f r e h g = rw (e, sym h) g
+
+pub destination-is : (m k : FieldMode) (p f r : ℕ) → m ≡ k → f ≡ destinationField p → r ≡ fieldValue k f
+    → r ≡ fieldValue m (destinationField p)
+destination-is m k p f r e h g = rw (e, sym h) g
+
+-- one parcel
+pub entry-is : (e g : ShortEntry) (p : ℕ) (r : ShortEntry) → e ≡ g → r ≡ shortEntry g p → r ≡ shortEntry e p
+entry-is e g p r q h = rw q h
+
+pub stack-is : (e : ShortEntry) (p k : ℕ) (r : ShortEntry) → e ≡ Stack → k ≡ p / 256 % 4 → r ≡ stackOf k → r ≡ shortEntry e p
+stack-is e p k r q h g = g ∙ rw (q, h) refl
+
+pub niladic-is : (e : ShortEntry) (p k : ℕ) (r : ShortEntry) → e ≡ Niladic → k ≡ p % 1024 → r ≡ niladicOf k → r ≡ shortEntry e p
+niladic-is e p k r q h g = g ∙ rw (q, h) refl
+
+pub instruction-is : (w : ShortRow) (s d : FieldMode) (p x y : ℕ) → x ≡ fieldValue s (sourceField s p) → y ≡ fieldValue d (destinationField p)
+    → _≡_ {A = ShortInstruction} (record { row = w; source = x; destination = y }) (shortInstruction w s d p)
+instruction-is w s d p x y e f = cc
+
+pub row-is : (e : ShortEntry) (w : ShortRow) (s d : FieldMode) (p : ℕ) (i : ShortInstruction) → e ≡ Row w s d → i ≡ shortInstruction w s d p
+    → Is (Short i) ≡ shortAnswer e p
+row-is e w s d p i q h = rw (q, h) refl
+
+pub short-is : (p k : ℕ) (e f : ShortEntry) (r : Answer) → k ≡ p / 1024 % 32 → e ≡ shortOf k → f ≡ shortEntry e p → r ≡ shortAnswer f p
+    → r ≡ decodeShort p
+unfolding decodeShort
+short-is p k e f r a b c d = d ∙ rw (c, b, a) refl

@@ -1,0 +1,7 @@
+mod Bounds
+mod ValueExits
+mod ShortExits
+mod OperandExits
+mod MonadicExits
+mod WideExits
+mod EncodeExits

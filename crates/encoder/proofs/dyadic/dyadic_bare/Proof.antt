@@ -1,0 +1,37 @@
+use Rattle.encoder.proofs.WideExits.{opcode-fits, code-fits, bare-is}
+use borrow.Author.Needs.{needs}
+use Rattle.encoder.proofs.dyadic.dyadic_bare.Statement.{statement}
+use Rattle.encoder.proofs.dyadic.dyadic_bare.Tie as tie
+
+list-dyadic-requires : tie.Need-list-dyadic-requires
+list-dyadic-requires c κs = search needs
+
+operand-code-requires : tie.Need-operand-code-requires
+operand-code-requires c κs = search needs
+
+operand-code-requires-2 : tie.Need-operand-code-requires-2
+operand-code-requires-2 c κs = search needs
+
+operand-raw-requires : tie.Need-operand-raw-requires
+operand-raw-requires c κs = search needs
+
+operand-raw-requires-2 : tie.Need-operand-raw-requires-2
+operand-raw-requires-2 c κs = search needs
+
+dyadic-text-requires : tie.Need-dyadic-text-requires
+dyadic-text-requires c κs = search (needs, opcode-fits, code-fits)
+
+returns : tie.Need-returns
+returns c = search (needs, bare-is)
+
+pub dyadic-bare-spec : {M : Type 1} → statement M
+dyadic-bare-spec =
+    tie.close
+    (tie.spec
+    list-dyadic-requires
+    operand-code-requires
+    operand-code-requires-2
+    operand-raw-requires
+    operand-raw-requires-2
+    dyadic-text-requires
+    returns)

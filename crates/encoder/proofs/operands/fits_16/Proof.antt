@@ -1,0 +1,19 @@
+use Rattle.encoder.proofs.OperandExits.{fits-absolute, fits-extended}
+use borrow.Author.Needs.{needs}
+use Rattle.encoder.proofs.operands.fits_16.Statement.{statement}
+use Rattle.encoder.proofs.operands.fits_16.Tie as tie
+
+is-absolute-requires : tie.Need-is-absolute-requires
+is-absolute-requires c κs = search needs
+
+sign-extend-requires : tie.Need-sign-extend-requires
+sign-extend-requires c κs = search needs
+
+returns : tie.Need-returns
+returns c = search (needs, fits-absolute)
+
+returns-2 : tie.Need-returns-2
+returns-2 c = search (needs, fits-extended)
+
+pub fits-16-spec : {M : Type 1} → statement M
+fits-16-spec = tie.close (tie.spec is-absolute-requires sign-extend-requires returns returns-2)

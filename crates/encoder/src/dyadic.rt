@@ -1,0 +1,87 @@
+// Instructions of three and five parcels with two operands.
+use crate::operands::admits_both;
+use crate::operands::fits_form;
+use crate::operands::operand_raw;
+use crate::text::answer;
+use crate::text::five_parcels;
+use crate::text::three_parcels;
+use crate::text::with_prefix;
+use bits::high_half;
+use bits::low_half;
+use encodings::modes::has_mode;
+use encodings::modes::operand_code;
+use encodings::rows::list_dyadic;
+use isa::DyadicInstruction;
+use isa::Encoded;
+use isa::Text;
+use isa::Wide;
+ghost use mathlib.Core.Path.{_≡_};
+ghost use Prim.Native.Nat.{_+_, _*_, _<_};
+ghost use Rattle.isa.specs.Encode.{dyadicText, dyadicHasCode, encodeDyadic};
+ghost use Rattle.encoder.specs.Parts.{dyadicBare};
+
+// The first parcel of a form: its top two bits, the opcode and the two modes.
+fn first_parcel(form: u32, o: u32, s: u32, d: u32) -> u16
+    requires { ⌜ (form < 0xC001) × (o < 64) × (s < 16) × (d < 16) ⌝ }
+    ensures { λ r. ⌜ r ≡ form + o * 256 + s * 16 + d ⌝ }
+{
+    (form + o * 256 + s * 16 + d) as u16
+}
+
+fn dyadic_text(w: Wide, o: u32, s: u32, d: u32, x: u32, y: u32) -> Text
+    requires { ⌜ (o < 64) × (s < 16) × (d < 16) ⌝ }
+    ensures { λ r. ⌜ r ≡ dyadicText w o s d x y ⌝ }
+{
+    match w {
+        Wide::Three => three_parcels(first_parcel(0x8000, o, s, d), low_half(x), low_half(y)),
+        Wide::Five => five_parcels(
+            first_parcel(0xC000, o, s, d),
+            high_half(x),
+            low_half(x),
+            high_half(y),
+            low_half(y),
+        ),
+    }
+}
+
+// Whether there is a code for the instruction.
+fn dyadic_has_code(i: DyadicInstruction) -> bool
+    ensures { λ r. ⌜ r ≡ dyadicHasCode i ⌝ }
+{
+    let row = i.row;
+    let w = i.wide;
+    let s = i.source;
+    let d = i.destination;
+    let l = list_dyadic(row);
+    let o = l.operands;
+    has_mode(i.prefix, s)
+        & has_mode(i.prefix, d)
+        & fits_form(w, s)
+        & fits_form(w, d)
+        & admits_both(o, s, d)
+}
+
+// The parcels of an instruction that has a code, without its prefix.
+fn dyadic_bare(i: DyadicInstruction) -> Text
+    ensures { λ r. ⌜ r ≡ dyadicBare i ⌝ }
+{
+    let row = i.row;
+    let w = i.wide;
+    let s = i.source;
+    let d = i.destination;
+    let l = list_dyadic(row);
+    dyadic_text(
+        w,
+        l.opcode,
+        operand_code(s),
+        operand_code(d),
+        operand_raw(s),
+        operand_raw(d),
+    )
+}
+
+pub fn encode_dyadic(i: DyadicInstruction) -> Encoded
+    ensures { λ r. ⌜ r ≡ encodeDyadic i ⌝ }
+{
+    answer(dyadic_has_code(i), with_prefix(i.prefix, dyadic_bare(i)))
+}

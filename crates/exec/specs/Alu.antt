@@ -1,0 +1,102 @@
+-- What an operation gives of destination and source: a word, and the flags it sets (1.8 and the pages of section 3.3).
+-- Assumes nothing.
+use Prim.Native.Nat.{ℕ, _+_, _*_, _/_, _%_, _^_}
+use mathlib.Core.Bool.{Bool, true, false, cond}
+use lib.Dec.{eqb}
+use lib.Bits.{bitAnd, bitOr, bitXor}
+use Rattle.bits.specs.Bits.{bitOf}
+use Rattle.word.specs.Sums.{plusOf, addOf, subOf, equalOf, greaterOf, higherOf}
+use Rattle.word.specs.Products.{mulOf, divOf, udivOf, uremOf}
+use Rattle.word.specs.Shifts.{shlOf, shrOf, ushrOf}
+use Rattle.machine.specs.Registers.{psw}
+use Rattle.machine.specs.Status.{Cpu, reg, with}
+use Rattle.exec.specs.declared.Operation.{Operation}
+use Rattle.exec.specs.declared.Operation.the-variants.{Add, Sub, Mul, Div, Rem, Udiv, Urem, And, Or, Xor, Shl, Shr, Ushr}
+use Rattle.exec.specs.declared.Relation.{Relation}
+use Rattle.exec.specs.declared.Relation.the-variants.{Equal, Greater, Higher}
+
+-- a flag that stays, or gets a value
+pub data Flag : Type 0 where
+  stays : Flag
+  gets : Bool → Flag
+
+pub record Result : Type 0 where
+  pub value : ℕ
+  pub carry : Flag
+  pub overflow : Flag
+
+abbrev pub plain : ℕ → Result
+plain v = record { value = v; carry = stays; overflow = stays }
+
+-- operate on destination d and source s
+abbrev pub operate : Operation → ℕ → ℕ → Result
+operate Add d s = record { value = addOf d s .value; carry = gets (addOf d s .carry); overflow = gets (addOf d s .overflow) }
+operate Sub d s = record { value = subOf d s .value; carry = gets (subOf d s .carry); overflow = gets (subOf d s .overflow) }
+operate Mul d s = record { value = mulOf d s .value; carry = gets (mulOf d s .carry); overflow = gets (mulOf d s .overflow) }
+operate Div d s = record { value = divOf d s .value; carry = stays; overflow = gets (divOf d s .overflow) }
+operate Rem d s = record { value = divOf d s .rest; carry = stays; overflow = gets false }
+operate Udiv d s = record { value = udivOf d s; carry = gets false; overflow = stays }
+operate Urem d s = record { value = uremOf d s; carry = gets false; overflow = stays }
+operate And d s = plain (bitAnd d s)
+operate Or d s = plain (bitOr d s)
+operate Xor d s = plain (bitXor d s)
+operate Shl d s = plain (shlOf d s)
+operate Shr d s = plain (shrOf d s)
+operate Ushr d s = plain (ushrOf d s)
+
+-- the operations that a source of 0 makes an exception 0x1
+abbrev pub divides : Operation → Bool
+divides Add = false
+divides Sub = false
+divides Mul = false
+divides Div = true
+divides Rem = true
+divides Udiv = true
+divides Urem = true
+divides And = false
+divides Or = false
+divides Xor = false
+divides Shl = false
+divides Shr = false
+divides Ushr = false
+
+abbrev pub zeroDivide : ℕ
+zeroDivide = 0x1
+
+-- CMP: src1 rel src2
+abbrev pub related : Relation → ℕ → ℕ → Bool
+related Equal s d = equalOf s d
+related Greater s d = greaterOf s d
+related Higher s d = higherOf s d
+
+-- Table 1-8: flag 4, carry 5, overflow 6
+abbrev pub flagBit : ℕ
+flagBit = 4
+
+abbrev pub carryBit : ℕ
+carryBit = 5
+
+abbrev pub overflowBit : ℕ
+overflowBit = 6
+
+abbrev pub digit : Bool → ℕ
+digit true = 1
+digit false = 0
+
+-- a word with bit n as b
+abbrev pub withBitAs : ℕ → Bool → ℕ → ℕ
+withBitAs n b x = x / 2 ^ n / 2 * 2 * 2 ^ n + digit b * 2 ^ n + x % 2 ^ n
+
+abbrev pub flagged : ℕ → Flag → ℕ → ℕ
+flagged n stays x = x
+flagged n (gets b) x = withBitAs n b x
+
+-- the flags laid over PSW as it then is
+abbrev pub withFlags : Cpu → Flag → Flag → Cpu
+withFlags c cf vf = with c psw (flagged overflowBit vf (flagged carryBit cf (reg c psw)))
+
+abbrev pub withFlag : Cpu → Bool → Cpu
+withFlag c f = with c psw (withBitAs flagBit f (reg c psw))
+
+abbrev pub pswBit : Cpu → ℕ → Bool
+pswBit c n = bitOf (reg c psw) n

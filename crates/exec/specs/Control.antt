@@ -1,0 +1,95 @@
+-- Jumps, calls and returns, and the instructions without operands (CALL, JMP, LDRAA, POPN, RETURN, CLRE, TESTC, TESTV, NOP).
+-- Assumes nothing.
+use Prim.Native.Nat.{ℕ, _+_, _*_, _/_}
+use mathlib.Core.Bool.{Bool, true, false, cond, not, _&&_, _||_}
+use lib.Dec.{ltb}
+use Rattle.word.specs.declared.Width.the-variants.{Word}
+use Rattle.word.specs.Sums.{plusOf}
+use Rattle.isa.specs.declared.MonadicMode.{MonadicMode}
+use Rattle.isa.specs.declared.MonadicMode.the-variants.{WordAbsolute, WordStack, WordIndirect, WordImmediate, FlowAbsoluteIndirect, FlowStackIndirect, FlowRelative, FlowAbsolute}
+use Rattle.program.specs.Program.{Program}
+use Rattle.machine.specs.Registers.{pc, psw, msp, shad}
+use Rattle.machine.specs.Status.{Cpu, reg, with, csp, spCurrent, cacheOn}
+use Rattle.access.specs.Parts.{Out, ok, stop, done, _>>=_}
+use Rattle.access.specs.Data.{readData, writeData}
+use Rattle.exec.specs.Alu.{withBitAs, flagBit, pswBit}
+use Rattle.exec.specs.Operands.{stackAddress, writeAccumulator}
+
+-- "the PC is always a multiple of two" (1.5.6)
+abbrev pub jumped : Cpu → ℕ → Cpu
+jumped c a = with c pc (a / 2 * 2)
+
+-- the address of the instruction in line, n parcels on
+abbrev pub nextPc : Cpu → ℕ → ℕ
+nextPc c n = plusOf (reg c pc) (n * 2)
+
+abbrev pub advanced : Cpu → ℕ → Cpu
+advanced c n = with c pc (nextPc c n)
+
+-- an operand of a word mode: KCALL, and the targets that are read
+unfoldable pub readWord32 : Cpu → MonadicMode → ℕ → Program (Out ℕ)
+readWord32 c WordAbsolute v = readData c Word v
+readWord32 c WordStack v = readData c Word (stackAddress c v)
+readWord32 c WordIndirect v = do
+  a ← readData c Word (stackAddress c v)
+  readData c Word a
+readWord32 c WordImmediate v = done v
+readWord32 c FlowAbsoluteIndirect v = readData c Word v
+readWord32 c FlowStackIndirect v = readData c Word (stackAddress c v)
+readWord32 c FlowRelative v = done (plusOf (reg c pc) v)
+readWord32 c FlowAbsolute v = done v
+
+-- Table 1-23: where CALL and JMP go. PC-relative counts from the instruction, or its prefix
+abbrev pub flowTarget : Cpu → MonadicMode → ℕ → Program (Out ℕ)
+flowTarget c m v = readWord32 c m v
+
+unfoldable pub jump : Cpu → MonadicMode → ℕ → Program (Out Cpu)
+jump c m v = do
+  a ← flowTarget c m v
+  done (jumped c a)
+
+-- JMPT and JMPF: the predicted way does not matter
+unfoldable pub jumpIf : Bool → Cpu → MonadicMode → ℕ → ℕ → Program (Out Cpu)
+jumpIf b c m v n = cond b (jump c m v) (done (advanced c n))
+
+-- CALL: the target is read, the next PC is stored at the current stack pointer, then PC is the target
+unfoldable pub call : Cpu → MonadicMode → ℕ → ℕ → Program (Out Cpu)
+call c m v n = do
+  a ← flowTarget c m v
+  c ← writeData c Word (reg c (csp (c .bank))) (nextPc c n)
+  done (jumped c a)
+
+-- LDRAA: "calculated as if a JMP instruction was being executed and stored in the accumulator"
+unfoldable pub loadAddress : Cpu → MonadicMode → ℕ → ℕ → Program (Out Cpu)
+loadAddress c m v n = do
+  a ← flowTarget c m v
+  c ← writeAccumulator c a
+  done (advanced c n)
+
+-- the current stack pointer with its shadow
+abbrev pub withCsp : Cpu → ℕ → Cpu
+withCsp c v = with (with c (csp (c .bank)) v) shad v
+
+-- POPN, RETURN: "If the CSP is SP, and the new SP value exceeds the MSP, the MSP is also updated"; HOUSE: with the cache off
+-- MSP is left equal to SP
+unfoldable pub released : Cpu → ℕ → Cpu
+released c v =
+    cond (spCurrent (c .bank) && (not (cacheOn (c .bank)) || ltb (reg c msp) (stackAddress c v / 16 * 16)))
+    (with (withCsp c (stackAddress c v / 16 * 16)) msp (stackAddress c v / 16 * 16))
+    (withCsp c (stackAddress c v / 16 * 16))
+
+unfoldable pub return : Cpu → ℕ → Program (Out Cpu)
+return c v = do
+  a ← readData c Word (stackAddress c v)
+  done (jumped (released c v) a)
+
+-- TESTC, TESTV: "copied into the PSW flag bit", and cleared
+abbrev pub testBit : Cpu → ℕ → Cpu
+testBit c n = with c psw (withBitAs flagBit (pswBit c n) (withBitAs n false (reg c psw)))
+
+-- Table 1-8: enter guard
+abbrev pub guardBit : ℕ
+guardBit = 11
+
+abbrev pub withGuard : Cpu → Bool → Cpu
+withGuard c b = with c psw (withBitAs guardBit b (reg c psw))

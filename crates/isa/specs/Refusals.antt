@@ -1,0 +1,10 @@
+-- Refusal numbers of document 01 that the decoder and the encoder give.
+use Prim.Native.Nat.{ℕ}
+
+-- "no code": no encoding at the named length carries the instruction
+abbrev pub noCode : ℕ
+noCode = 5
+
+-- "cut text": no parcel, or fewer than the first one, or the one after a prefix, calls for
+abbrev pub cutText : ℕ
+cutText = 6

@@ -1,0 +1,4 @@
+mod Exits
+pub mod AnswerLaws
+pub mod Laws
+pub mod PlaceLaws

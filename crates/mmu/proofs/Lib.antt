@@ -1,0 +1,3 @@
+mod Exits
+pub mod Marks
+pub mod Shape

@@ -1,0 +1,48 @@
+// The fields of table entries (Tables 2-1 to 2-3), and what an entry permits.
+use crate::Kind;
+use bits::bit;
+use bits::field;
+ghost use mathlib.Core.Path.{_≡_};
+ghost use Rattle.mmu.specs.Walk.{faultOf, isWrite, segmentPlace, pagePlace, permits as permitsOf};
+
+// The exception of an access that is not permitted.
+pub fn fault_of(k: Kind) -> u32
+    ensures { λ r. ⌜ r ≡ faultOf k ⌝ }
+{
+    match k {
+        Kind::Fetch => 0x7,
+        Kind::Read => 0x8,
+        Kind::Write => 0x9,
+    }
+}
+
+pub fn is_write(k: Kind) -> bool
+    ensures { λ r. ⌜ r ≡ isWrite k ⌝ }
+{
+    match k {
+        Kind::Fetch => false,
+        Kind::Read => false,
+        Kind::Write => true,
+    }
+}
+
+// The address of a segment entry.
+pub fn segment_place(stb: u32, va: u32) -> u32
+    ensures { λ r. ⌜ r ≡ segmentPlace stb va ⌝ }
+{
+    field(stb, 12, 20) * 0x1000 + field(va, 22, 10) * 4
+}
+
+// The address of a page entry.
+pub fn page_place(entry: u32, va: u32) -> u32
+    ensures { λ r. ⌜ r ≡ pagePlace entry va ⌝ }
+{
+    field(entry, 12, 20) * 0x1000 + field(va, 12, 10) * 4
+}
+
+// Whether a valid entry permits an access, at user level or not.
+pub fn permits(user: bool, k: Kind, e: u32) -> bool
+    ensures { λ r. ⌜ r ≡ permitsOf user k e ⌝ }
+{
+    (bit(e, 2) | !user) & (bit(e, 1) | !is_write(k))
+}

@@ -1,0 +1,34 @@
+// Translation of chapter 2: the walk, which only looks, and the recording bits.
+pub mod entries;
+pub mod recording;
+pub mod translation;
+
+// What an access is for.
+pub enum Kind {
+    Fetch,
+    Read,
+    Write,
+}
+
+// What the segment number leads to: past memory, an invalid entry, a nonpaged segment's entry, or the address of a
+// page entry, which lies in memory.
+pub enum Segment {
+    Outside,
+    Invalid,
+    Nonpaged(u32),
+    Table(u32),
+}
+
+// Where a walk ends: an exception, an address in a nonpaged segment, or an address in a page with its page entry's.
+pub enum Walk {
+    Fault(u32),
+    Direct(u32),
+    Paged(u32, u32),
+}
+
+// A translation regime: where the segment table is, at which level an access goes, and whether it is translated.
+pub struct Regime {
+    pub stb: u32,
+    pub user: bool,
+    pub translated: bool,
+}

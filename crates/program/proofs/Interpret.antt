@@ -1,0 +1,27 @@
+-- Laws of programs over any world.
+-- Assumes nothing.
+use mathlib.Core.Path.{_≡_, refl}
+use Rattle.memory.specs.Answers.{Answer}
+use Rattle.program.specs.Access.{Access, Gave, gave}
+use Rattle.program.specs.Program.{Program, ret, ask, Handler, interpret, after}
+
+-- one program after another is interpreted one after another
+pub interpret-after : {W A B : Type 0} (h : Handler W) (p : Program A) (f : A → Program B) (w : W)
+    → interpret h (after p f) w ≡ interpret h (f (interpret h p w .out)) (interpret h p w .world)
+unfolding interpret after
+interpret-after h (ret a) f w = refl
+interpret-after h (ask q k) f w = interpret-after h (k (h q w .out)) f (h q w .world)
+
+-- two worlds that answer every access alike, and stay related, let every program end alike
+module _ {U W : Type 0} (R : U → W → Type 0) where
+  pub record Alike {A : Type 0} (x : Gave U A) (y : Gave W A) : Type 0 where
+    pub out : x .out ≡ y .out
+    pub world : R (x .world) (y .world)
+
+  pub interpret-alike : (g : Handler U) (h : Handler W) → ((q : Access) (v : U) (w : W) → R v w → Alike (g q v) (h q w))
+      → {A : Type 0} (p : Program A) (v : U) (w : W) → R v w → Alike (interpret g p v) (interpret h p w)
+  unfolding interpret
+  interpret-alike g h s (ret a) v w r = record { out = refl; world = r }
+  interpret-alike g h s (ask q k) v w r =
+      let t = s q v w r in
+      rw (← t .out) (interpret-alike g h s (k (g q v .out)) (g q v .world) (h q w .world) (t .world))

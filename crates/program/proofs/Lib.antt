@@ -1,0 +1,5 @@
+pub mod Interpret
+pub mod Bounded
+pub mod Routes
+pub mod Undo
+pub mod Undoing

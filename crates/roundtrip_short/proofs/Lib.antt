@@ -1,0 +1,3 @@
+mod Every
+mod Rows
+pub mod Short

@@ -1,0 +1,1 @@
+// No code: the theorems of proofs/ on one-parcel instructions.

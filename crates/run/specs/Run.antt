@@ -1,0 +1,163 @@
+-- Runs of kinds 03 and 04: refusals, steps up to the stop, and the answer (document 01, "The board program and its frames").
+-- Assumes nothing.
+use Prim.Native.Nat.{ℕ, zero, suc}
+use mathlib.Core.Bool.{Bool, true, false, cond, not, _&&_}
+use lib.ListN.{length}
+use lib.Dec.{leb}
+use Rattle.memory.specs.Bytes.{Memory, wholePages, oddBoard}
+use Rattle.isa.specs.declared.Instruction.{Instruction}
+use Rattle.program.specs.Access.{Gave}
+use Rattle.program.specs.Program.{Program, ret, interpret, plain}
+use Rattle.machine.specs.Registers.{pc, psw, goodBank, badRegister}
+use Rattle.machine.specs.Status.{Cpu, reg, isUser, isVirtual}
+use Rattle.access.specs.Parts.{Out, ok, stop, _>>=_}
+use Rattle.exec.specs.declared.Monadic.{Monadic}
+use Rattle.exec.specs.declared.Monadic.the-variants as monadic
+use Rattle.exec.specs.Execute.{Normal, twoOperands, oneOperand, noOperand, normal, execute, traced}
+use Rattle.step.specs.Events.{Due, none, interrupt, timer1, timer2, trace, dueOf, looked, dueCode}
+use Rattle.step.specs.Step.{Met, meets, vectored, fetchInstruction, Acted, finished, sequenced, act, tracesAt, traceFalls, Stepped, stepped, step, timed, holdsStack}
+
+-- a machine with its lent memory
+pub record Board : Type 0 where
+  pub cpu : Cpu
+  pub memory : Memory
+
+abbrev pub board : Cpu → Memory → Board
+board c m = record { cpu = c; memory = m }
+
+-- what one turn of a run does: a step, or a stop with its code
+pub data Turn : Type 0 where
+  goes : Board → Turn
+  ends : ℕ → ℕ → Board → Turn
+
+-- stops: 00 budget spent, 01 refused, 02 event due
+abbrev pub budgetSpent : ℕ
+budgetSpent = 0
+
+abbrev pub refused : ℕ
+refused = 1
+
+abbrev pub eventDue : ℕ
+eventDue = 2
+
+-- refusal 4, "lost stack": the step leaves nothing
+abbrev pub lostStack : ℕ
+lostStack = 4
+
+abbrev pub unlessLost : Bool → Board → Turn → Turn
+unlessLost held s t = cond held t (ends refused lostStack s)
+
+-- ---- kind 03: events are taken
+
+abbrev pub afterStep : Board → Gave Memory Stepped → Turn
+afterStep s g = unlessLost (holdsStack (g .out .cpu)) s (goes (board (timed (s .cpu) (g .out)) (g .world)))
+
+unfoldable pub turn : ℕ → Board → Turn
+turn level s = afterStep s (interpret plain (step level (s .cpu)) (s .memory))
+
+-- ---- kind 04: confined, before the first event sequence
+
+-- document 01: "20 KCALL, 21 unimplemented; a KCALL or unimplemented instruction has only been fetched"
+pub data Tried : Type 0 where
+  tried : Acted → Tried
+  fetched : ℕ → Tried
+
+abbrev pub kcallCode : ℕ
+kcallCode = 0x20
+
+abbrev pub unimplementedCode : ℕ
+unimplementedCode = 0x21
+
+abbrev pub isKcall : Normal → Bool
+isKcall (twoOperands w t s d) = false
+isKcall (oneOperand o m v) = kcalls o
+  where
+  kcalls : Monadic → Bool
+  kcalls monadic.Kcall = true
+  kcalls monadic.Call = false
+  kcalls monadic.Return = false
+  kcalls monadic.Jmp = false
+  kcalls monadic.JmpFalse = false
+  kcalls monadic.JmpTrue = false
+  kcalls monadic.Catch = false
+  kcalls monadic.Enter = false
+  kcalls monadic.Ldraa = false
+  kcalls monadic.Flush = false
+  kcalls monadic.Popn = false
+isKcall (noOperand o) = false
+
+unfoldable pub tryActed : Cpu → Met → Program (Out Tried)
+tryActed c (meets i) =
+    cond (isKcall (normal i)) (ret (ok (fetched kcallCode))) (execute c i >>= (λ d. ret (ok (tried (finished (traced (normal i)) d)))))
+tryActed c (vectored v) = ret (ok (fetched unimplementedCode))
+
+unfoldable pub confinedAttempt : Cpu → Program (Out Tried)
+confinedAttempt c = do
+  m ← fetchInstruction c
+  tryActed c m
+
+abbrev pub afterTry : Board → Cpu → Out Tried → Memory → Turn
+afterTry s c (ok (tried (finished t d))) m =
+    unlessLost (holdsStack d) s (goes (board (timed (s .cpu) (stepped (traceFalls (tracesAt (reg c psw) t) d) true)) m))
+afterTry s c (ok (tried (sequenced d))) m = unlessLost (holdsStack d) s (ends eventDue unimplementedCode (board d m))
+afterTry s c (ok (fetched code)) m = unlessLost (holdsStack c) s (ends eventDue code (board c m))
+afterTry s c (stop e d) m = unlessLost (holdsStack d) s (ends eventDue e (board d m))
+
+abbrev pub tryTurn : Board → Cpu → Gave Memory (Out Tried) → Turn
+tryTurn s c g = afterTry s c (g .out) (g .world)
+
+abbrev pub confinedFor : Due → Board → Cpu → Turn
+confinedFor none s c = tryTurn s c (interpret plain (confinedAttempt c) (s .memory))
+confinedFor (interrupt n) s c = ends eventDue (dueCode (interrupt n)) (board c (s .memory))
+confinedFor timer1 s c = ends eventDue (dueCode timer1) (board c (s .memory))
+confinedFor timer2 s c = ends eventDue (dueCode timer2) (board c (s .memory))
+confinedFor trace s c = ends eventDue (dueCode trace) (board c (s .memory))
+
+unfoldable pub confinedTurn : ℕ → Board → Turn
+confinedTurn level s = confinedFor (dueOf level (looked level (s .cpu) .bank)) s (looked level (s .cpu))
+
+-- ---- a run
+
+-- what an 83 line carries, and the board that is left
+pub record Ended : Type 0 where
+  pub steps : ℕ
+  pub stop : ℕ
+  pub code : ℕ
+  pub left : Board
+
+abbrev pub ended : ℕ → ℕ → ℕ → Board → Ended
+ended n reason code s = record { steps = n; stop = reason; code = code; left = s }
+
+abbrev pub going : ℕ → (Board → Ended) → Turn → Ended
+going n go (goes s) = go s
+going n go (ends reason code s) = ended n reason code s
+
+-- n steps are done; the budget is looked at before any event
+unfoldable pub advance : (Board → Turn) → ℕ → ℕ → Board → Ended
+advance t n zero s = ended n budgetSpent 0 s
+advance t n (suc budget) s = going n (λ u. advance t (suc n) budget u) (t s)
+
+-- refusals 1, 2, 3 and 9 in this order; 0 is none
+abbrev pub badLevel : ℕ
+badLevel = 3
+
+abbrev pub notConfined : ℕ
+notConfined = 9
+
+unfoldable pub refusal : Bool → ℕ → Board → ℕ
+refusal confined level s =
+    cond (not (wholePages (length (s .memory)))) oddBoard
+    (cond (not (goodBank (s .cpu .bank))) badRegister
+    (cond (not (leb level 7)) badLevel
+    (cond (confined && not (isUser (s .cpu .bank) && isVirtual (s .cpu .bank))) notConfined 0)))
+
+abbrev pub turnOf : Bool → ℕ → Board → Turn
+turnOf true level s = confinedTurn level s
+turnOf false level s = turn level s
+
+abbrev pub unlessRefused : ℕ → Ended → Board → Ended
+unlessRefused zero e s = e
+unlessRefused (suc r) e s = ended 0 refused (suc r) s
+
+unfoldable pub run : Bool → ℕ → ℕ → Board → Ended
+run confined budget level s = unlessRefused (refusal confined level s) (advance (turnOf confined level) 0 budget s) s

@@ -1,0 +1,1 @@
+// Runs: steps under a budget, with their stops and refusals.

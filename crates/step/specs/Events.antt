@@ -1,0 +1,59 @@
+-- What a look before a step finds due (1.11.2, 1.11.5), and the sequence that takes it.
+-- Assumes nothing.
+use Prim.Native.Nat.{ℕ, _+_, _*_}
+use mathlib.Core.Bool.{Bool, true, false, cond, not, _&&_}
+use lib.Dec.{eqb, ltb, leb}
+use Rattle.bits.specs.Bits.{fieldOf}
+use Rattle.program.specs.Program.{Program}
+use Rattle.machine.specs.Registers.{Bank, word, psw, traceDue, timer1Due, timer2Due, nmiTaken}
+use Rattle.machine.specs.Status.{Cpu, reg, with}
+use Rattle.access.specs.Parts.{Out}
+use Rattle.exec.specs.Frames.{interruptSequence, exceptionSequence}
+
+pub data Due : Type 0 where
+  none : Due
+  interrupt : ℕ → Due
+  timer1 : Due
+  timer2 : Due
+  trace : Due
+
+-- "Interrupts are accepted when the requesting device level is less than interrupt priority level or equal to 0"
+abbrev pub priority : Bank → ℕ
+priority b = fieldOf (word b psw) 12 3
+
+abbrev pub isDue : Bank → ℕ → Bool
+isDue b k = eqb (word b k) 1
+
+-- an external level 1 goes before Timer1, Timer1 before Timer2 (Table 1-2), interrupts before a trace (1.11.5); input 0,
+-- once taken, waits for a look that finds another level
+abbrev pub dueOf : ℕ → Bank → Due
+dueOf level b =
+    cond (eqb level 0 && not (isDue b nmiTaken)) (interrupt 0)
+    (cond (eqb level 1 && ltb 1 (priority b)) (interrupt 1)
+    (cond (isDue b timer1Due && ltb 1 (priority b)) timer1
+    (cond (isDue b timer2Due && ltb 1 (priority b)) timer2
+    (cond (leb 2 level && leb level 6 && ltb level (priority b)) (interrupt level)
+    (cond (isDue b traceDue) trace none)))))
+
+-- a look that finds another level ends the wait of input 0
+abbrev pub looked : ℕ → Cpu → Cpu
+looked level c = cond (eqb level 0) c (with c nmiTaken 0)
+
+abbrev pub traceException : ℕ
+traceException = 0x2
+
+-- document 01: "10 to 16 interrupt level 0 to 6, 17 and 18 timers", and the trace by its exception
+abbrev pub dueCode : Due → ℕ
+dueCode none = 0
+dueCode (interrupt n) = 0x10 + n
+dueCode timer1 = 0x17
+dueCode timer2 = 0x18
+dueCode trace = traceException
+
+-- Table 1-14; what is taken is no longer due
+unfoldable pub take : Cpu → Due → Program (Out Cpu)
+take c none = interruptSequence c 0
+take c (interrupt n) = interruptSequence (cond (eqb n 0) (with c nmiTaken 1) c) (16 + 4 * n)
+take c timer1 = interruptSequence (with c timer1Due 0) 44
+take c timer2 = interruptSequence (with c timer2Due 0) 48
+take c trace = exceptionSequence (with c traceDue 0) traceException

@@ -1,0 +1,31 @@
+-- Both timers (Table 1-2, 1.5.11, 1.5.12), counted after each step by the CONFIG and the level it began with. A clock is one step.
+-- Assumes nothing.
+use Prim.Native.Nat.{ℕ}
+use mathlib.Core.Bool.{Bool, true, false, cond, not, _&&_, _||_}
+use lib.Dec.{eqb}
+use Rattle.word.specs.Sums.{plusOf}
+use Rattle.bits.specs.Bits.{bitOf, fieldOf}
+use Rattle.machine.specs.Registers.{timer1, timer2, timer1Due, timer2Due}
+use Rattle.machine.specs.Status.{Cpu, reg, with}
+
+-- "If 1, the timer only increments in kernel mode"
+abbrev pub counts1 : ℕ → Bool → Bool → Bool
+counts1 config kernel completed = (not (bitOf config 23) || kernel) && (not (bitOf config 22) || completed)
+
+-- bits 29:25 select the event; one that is not in the table never counts
+abbrev pub counts2 : ℕ → Bool → Bool → Bool
+counts2 config kernel completed =
+    (not (bitOf config 30) || kernel) && (eqb (fieldOf config 25 5) 0 || (eqb (fieldOf config 25 5) 1 && completed))
+
+-- one more, and due if it goes from 0xFFFFFFFF to 0 with its interrupt on
+abbrev pub ticked : Cpu → ℕ → ℕ → Bool → Cpu
+ticked c k due on = overflowed (eqb (plusOf (reg c k) 1) 0 && on) (with c k (plusOf (reg c k) 1))
+  where
+  overflowed : Bool → Cpu → Cpu
+  overflowed b d = cond b (with d due 1) d
+
+unfoldable pub counted : ℕ → Bool → Bool → Cpu → Cpu
+counted config kernel completed c = second (cond (counts1 config kernel completed) (ticked c timer1 timer1Due (bitOf config 24)) c)
+  where
+  second : Cpu → Cpu
+  second d = cond (counts2 config kernel completed) (ticked d timer2 timer2Due (bitOf config 31)) d
