@@ -2,3 +2,4 @@ pub mod Parts
 pub mod Data
 pub mod Text
 pub mod Moves
+pub mod Code

@@ -1,6 +1,6 @@
 -- Parts of an instruction: each gives a value, or stops the instruction by an exception with the machine as it then is.
 -- Assumes nothing.
-use Prim.Native.Nat.{ℕ}
+use Prim.Native.Nat.{ℕ, _%_, _^_}
 use mathlib.Core.Bool.{Bool, cond, _||_}
 use lib.Dec.{eqb}
 use Rattle.memory.specs.Answers.{Answer, got, bad}
@@ -18,7 +18,6 @@ onward f (ok a) = f a
 onward f (stop e c) = ret (stop e c)
 
 infixl 20 _>>=_
-
 -- one part after another, unless the first stops
 unfoldable pub _>>=_ : {A B : Type 0} → Program (Out A) → (A → Program (Out B)) → Program (Out B)
 _>>=_ p f = after p (onward f)
@@ -38,8 +37,9 @@ replied c a (bad e) = stop e (faulted c e a)
 unfoldable pub request : Cpu → Access → ℕ → Program (Out ℕ)
 request c q a = ask q (λ r. ret (replied c a r))
 
+-- a parcel is sixteen bits
 abbrev pub plainReplied : Cpu → Answer → Out ℕ
-plainReplied c (got v) = ok v
+plainReplied c (got v) = ok (v % 2 ^ 16)
 plainReplied c (bad e) = stop e c
 
 -- an access whose fault is not saved: text

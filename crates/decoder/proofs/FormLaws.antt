@@ -7,7 +7,7 @@ use lib.Dec.{ltb, eqb}
 use borrow.Author.Tests.{lt-ltb, le-ltb}
 use Rattle.laws.proofs.Cases.{by-test}
 use Rattle.isa.specs.declared.Wide.{Wide}
-use Rattle.isa.specs.declared.Wide.the-variants.{Three, Five}
+use Rattle.isa.specs.declared.Wide.the-variants.{Three}
 use Rattle.isa.specs.declared.Answer.{Answer}
 use Rattle.isa.specs.declared.Answer.the-variants.{Refused}
 use Rattle.isa.specs.Refusals.{cutText}

@@ -1,7 +1,7 @@
 -- The ways out of the functions that cut fields and decode one parcel.
 -- Assumes nothing.
-use Prim.Native.Nat.{ℕ, _-_, _*_, _/_, _%_, _^_, _<_, _≤_}
-use mathlib.Core.Path.{_≡_, refl, sym, ap, _∙_}
+use Prim.Native.Nat.{ℕ, _-_, _/_, _%_, _^_}
+use mathlib.Core.Path.{_≡_, refl, sym, _∙_}
 use native.Mathlib.Nat.{div-one, mod-mod}
 use native.Mathlib.Omega.{arith}
 use Rattle.word.specs.Shifts.{shlOf, shrOf}

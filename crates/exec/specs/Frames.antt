@@ -89,8 +89,8 @@ unimplementedSequence c vector = do
 abbrev pub returned : Cpu → ℕ → ℕ → Cpu
 returned c a p = shadowedCsp (with (with (jumped c a) psw (kept psw p)) isp (plusOf (reg c isp) 16))
   where
-  shadowedCsp : Cpu → Cpu
-  shadowedCsp d = with d shad (reg d (csp (d .bank)))
+    shadowedCsp : Cpu → Cpu
+    shadowedCsp d = with d shad (reg d (csp (d .bank)))
 
 unfoldable pub kret : Cpu → Program (Out Cpu)
 kret c = do

@@ -66,12 +66,12 @@ clipped old m target =
 unfoldable pub enterOffset : Cpu → ℕ → Program (Out Cpu)
 enterOffset c target = enterFrom c target (reg c msp)
   where
-  enterFrom : Cpu → ℕ → ℕ → Program (Out Cpu)
-  enterFrom c target old = do
-    c ← flush false target quadWords c
-    _ ← checkStore c target
-    _ ← checkMsp c (regime (c .bank)) old (clipped old (reg c msp) target)
-    done (with (withCsp c target) msp (clipped old (reg c msp) target))
+    enterFrom : Cpu → ℕ → ℕ → Program (Out Cpu)
+    enterFrom c target old = do
+      c ← flush false target quadWords c
+      _ ← checkStore c target
+      _ ← checkMsp c (regime (c .bank)) old (clipped old (reg c msp) target)
+      done (with (withCsp c target) msp (clipped old (reg c msp) target))
 
 unfoldable pub enterAt : Cpu → MonadicMode → ℕ → Program (Out Cpu)
 enterAt c m target =
@@ -91,11 +91,11 @@ enter c m v n = do
 unfoldable pub catchTo : Cpu → Regime → ℕ → Program (Out Cpu)
 catchTo c r target = catchFrom (reg c msp)
   where
-  catchFrom : ℕ → Program (Out Cpu)
-  catchFrom old = do
-    c ← fill r target quadWords c
-    _ ← checkMsp c r old (reg c msp)
-    done c
+    catchFrom : ℕ → Program (Out Cpu)
+    catchFrom old = do
+      c ← fill r target quadWords c
+      _ ← checkMsp c r old (reg c msp)
+      done c
 
 unfoldable pub catchCurrent : Cpu → MonadicMode → ℕ → Program (Out Cpu)
 catchCurrent c m v = do

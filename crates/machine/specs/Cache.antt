@@ -2,7 +2,7 @@
 -- Assumes nothing.
 use Prim.Native.Nat.{ℕ, zero, suc, _+_, _-_, _*_, _/_, _%_, _^_}
 use mathlib.Core.List.{List, [], _∷_, _++_}
-use lib.ListN.{getD, set, take, drop}
+use lib.ListN.{getD, set}
 
 abbrev pub Cache : Type 0
 Cache = List (List ℕ)
@@ -40,7 +40,7 @@ abbrev pub quadsTo : ℕ → List ℕ → Cache
 quadsTo zero f = []
 quadsTo (suc n) f = quadsTo n f ++ (quadOf f n ∷ [])
 
-abbrev pub quadsOf : List ℕ → Cache
+unfoldable pub quadsOf : List ℕ → Cache
 quadsOf f = quadsTo 16 f
 
 abbrev pub wordsOf : List ℕ → List ℕ
@@ -50,5 +50,5 @@ abbrev pub flatTo : ℕ → Cache → List ℕ
 flatTo zero q = []
 flatTo (suc n) q = flatTo n q ++ wordsOf (getD q n [])
 
-abbrev pub flatOf : Cache → List ℕ
+unfoldable pub flatOf : Cache → List ℕ
 flatOf q = flatTo 16 q

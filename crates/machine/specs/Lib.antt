@@ -1,3 +1,6 @@
 pub mod Registers
+pub mod Masks
 pub mod Cache
 pub mod Status
+pub mod Record
+pub mod Shapes

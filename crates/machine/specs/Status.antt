@@ -1,8 +1,7 @@
 -- What the bits of PSW (Table 1-8) and CONFIG (Table 1-2) say, and the regime of an access.
 -- Assumes nothing.
-use Prim.Native.Nat.{ℕ, _+_, _*_, _/_, _%_, _^_}
-use mathlib.Core.Bool.{Bool, true, false, cond, _&&_}
-use mathlib.Core.List.{List}
+use Prim.Native.Nat.{ℕ}
+use mathlib.Core.Bool.{Bool, false, cond, _&&_}
 use lib.ListN.{set}
 use lib.Dec.{leb, ltb}
 use Rattle.bits.specs.Bits.{bitOf}

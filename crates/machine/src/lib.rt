@@ -1,4 +1,9 @@
-// The machine record: registers, stack cache, what is due.
+// The machine without its memory: registers, stack cache, what is due.
+pub mod assign;
+pub mod cache;
+pub mod record;
+pub mod registers;
+pub mod status;
 
 // Registers by their place in Table 1-1, less one; the stack cache's sixteen quad-words in one flat array.
 pub struct Machine {
@@ -8,4 +13,16 @@ pub struct Machine {
     pub timer1_due: bool,
     pub timer2_due: bool,
     pub nmi_taken: bool,
+}
+
+// A register set: 0 and the machine after it, or the refusal and the machine as it was.
+pub struct Assignment {
+    pub refusal: u32,
+    pub machine: Machine,
+}
+
+// A register read: 0 and its word, or the refusal and 0.
+pub struct Reading {
+    pub refusal: u32,
+    pub value: u32,
 }

@@ -32,16 +32,18 @@ segment-holds : (stb va : ℕ) (m : Memory) → TableHolds m (segment stb va m)
 unfolding segment segmentOf
 segment-holds stb va m = first (holds m (segmentPlace stb va) 4) (number 4 m (segmentPlace stb va))
   where
-  third : (b : Bool) (p : ℕ) → holds m p 4 ≡ b → TableHolds m (cond b (Table p) Outside)
-  third true p e = e
-  third false p e = tt
-  second : (a b : Bool) (e : ℕ) → TableHolds m (cond a (cond b (Nonpaged e) (cond (holds m (pagePlace e va) 4) (Table (pagePlace e va)) Outside)) Invalid)
-  second true true e = tt
-  second true false e = third (holds m (pagePlace e va) 4) (pagePlace e va) refl
-  second false b e = tt
-  first : (a : Bool) (e : ℕ) → TableHolds m (cond a (cond (valid e) (cond (nonpaged e) (Nonpaged e) (cond (holds m (pagePlace e va) 4) (Table (pagePlace e va)) Outside)) Invalid) Outside)
-  first true e = second (valid e) (nonpaged e) e
-  first false e = tt
+    third : (b : Bool) (p : ℕ) → holds m p 4 ≡ b → TableHolds m (cond b (Table p) Outside)
+    third true p e = e
+    third false p e = tt
+
+    second : (a b : Bool) (e : ℕ) → TableHolds m (cond a (cond b (Nonpaged e) (cond (holds m (pagePlace e va) 4) (Table (pagePlace e va)) Outside)) Invalid)
+    second true true e = tt
+    second true false e = third (holds m (pagePlace e va) 4) (pagePlace e va) refl
+    second false b e = tt
+
+    first : (a : Bool) (e : ℕ) → TableHolds m (cond a (cond (valid e) (cond (nonpaged e) (Nonpaged e) (cond (holds m (pagePlace e va) 4) (Table (pagePlace e va)) Outside)) Invalid) Outside)
+    first true e = second (valid e) (nonpaged e) e
+    first false e = tt
 
 direct-ends : (m : Memory) (va pa c : ℕ) (b : Bool) → pa % 4 ≡ va % 4 → Ends m va (cond b (Direct pa) (Fault c))
 direct-ends m va pa c true e = e
@@ -65,6 +67,6 @@ pub route-ends : (r : Regime) (k : Kind) (va : ℕ) (m : Memory) → Ends m va (
 unfolding route walk
 route-ends r k va m = go (r .translated)
   where
-  go : (b : Bool) → Ends m va (cond b (walkFrom (r .user) k va m (segment (r .stb) va m)) (Direct va))
-  go true = from-ends (r .user) k va m (segment (r .stb) va m) (segment-holds (r .stb) va m)
-  go false = refl
+    go : (b : Bool) → Ends m va (cond b (walkFrom (r .user) k va m (segment (r .stb) va m)) (Direct va))
+    go true = from-ends (r .user) k va m (segment (r .stb) va m) (segment-holds (r .stb) va m)
+    go false = refl

@@ -29,27 +29,31 @@ restored-near m a n r =
     ext-getD 0 _ m (simp length-set (r .length))
     (λ x h. at x (rw (length-restored n a (fourBytes m a), r .length) at h) (ℕ-discrete x (a + 3)) (ℕ-discrete x (a + 2)) (ℕ-discrete x (a + 1)) (ℕ-discrete x a))
   where
-  n1 : Memory
-  n1 = set n a (byteAt m a)
-  n2 : Memory
-  n2 = set n1 (a + 1) (byteAt m (a + 1))
-  n3 : Memory
-  n3 = set n2 (a + 2) (byteAt m (a + 2))
-  v : ℕ
-  v = byteAt m (a + 3)
-  at : (x : ℕ) → x < length m → Dec (x ≡ a + 3) → Dec (x ≡ a + 2) → Dec (x ≡ a + 1) → Dec (x ≡ a) → getD (set n3 (a + 3) v) x 0 ≡ getD m x 0
-  at x h (yes p) e₂ e₁ e₀ = rw p (getD-set-same n3 (a + 3) v 0 (simp length-set (omega (arith, r .length))))
-  at x h (no d) (yes p) e₁ e₀ =
-      getD-set-other n3 (a + 3) x v 0 d ∙ rw p (getD-set-same n2 (a + 2) (byteAt m (a + 2)) 0 (simp length-set (omega (arith, r .length))))
-  at x h (no d) (no d₂) (yes p) e₀ =
-      getD-set-other n3 (a + 3) x v 0 d ∙ getD-set-other n2 (a + 2) x (byteAt m (a + 2)) 0 d₂
-      ∙ rw p (getD-set-same n1 (a + 1) (byteAt m (a + 1)) 0 (simp length-set (omega (arith, r .length))))
-  at x h (no d) (no d₂) (no d₁) (yes p) =
-      getD-set-other n3 (a + 3) x v 0 d ∙ getD-set-other n2 (a + 2) x (byteAt m (a + 2)) 0 d₂
-      ∙ getD-set-other n1 (a + 1) x (byteAt m (a + 1)) 0 d₁ ∙ rw p (getD-set-same n a (byteAt m a) 0 (omega (arith, r .length)))
-  at x h (no d) (no d₂) (no d₁) (no d₀) =
-      getD-set-other n3 (a + 3) x v 0 d ∙ getD-set-other n2 (a + 2) x (byteAt m (a + 2)) 0 d₂
-      ∙ getD-set-other n1 (a + 1) x (byteAt m (a + 1)) 0 d₁ ∙ getD-set-other n a x (byteAt m a) 0 d₀ ∙ r .other x (λ l u. omega arith)
+    n1 : Memory
+    n1 = set n a (byteAt m a)
+
+    n2 : Memory
+    n2 = set n1 (a + 1) (byteAt m (a + 1))
+
+    n3 : Memory
+    n3 = set n2 (a + 2) (byteAt m (a + 2))
+
+    v : ℕ
+    v = byteAt m (a + 3)
+
+    at : (x : ℕ) → x < length m → Dec (x ≡ a + 3) → Dec (x ≡ a + 2) → Dec (x ≡ a + 1) → Dec (x ≡ a) → getD (set n3 (a + 3) v) x 0 ≡ getD m x 0
+    at x h (yes p) e₂ e₁ e₀ = rw p (getD-set-same n3 (a + 3) v 0 (simp length-set (omega (arith, r .length))))
+    at x h (no d) (yes p) e₁ e₀ =
+        getD-set-other n3 (a + 3) x v 0 d ∙ rw p (getD-set-same n2 (a + 2) (byteAt m (a + 2)) 0 (simp length-set (omega (arith, r .length))))
+    at x h (no d) (no d₂) (yes p) e₀ =
+        getD-set-other n3 (a + 3) x v 0 d ∙ getD-set-other n2 (a + 2) x (byteAt m (a + 2)) 0 d₂
+        ∙ rw p (getD-set-same n1 (a + 1) (byteAt m (a + 1)) 0 (simp length-set (omega (arith, r .length))))
+    at x h (no d) (no d₂) (no d₁) (yes p) =
+        getD-set-other n3 (a + 3) x v 0 d ∙ getD-set-other n2 (a + 2) x (byteAt m (a + 2)) 0 d₂
+        ∙ getD-set-other n1 (a + 1) x (byteAt m (a + 1)) 0 d₁ ∙ rw p (getD-set-same n a (byteAt m a) 0 (omega (arith, r .length)))
+    at x h (no d) (no d₂) (no d₁) (no d₀) =
+        getD-set-other n3 (a + 3) x v 0 d ∙ getD-set-other n2 (a + 2) x (byteAt m (a + 2)) 0 d₂
+        ∙ getD-set-other n1 (a + 1) x (byteAt m (a + 1)) 0 d₁ ∙ getD-set-other n a x (byteAt m a) 0 d₀ ∙ r .other x (λ l u. omega arith)
 
 -- a journal of its size
 pub record Sized (j : Journal) : Type 0 where
@@ -94,17 +98,22 @@ module _ (a : ℕ) (m : Memory) (j : Journal) (s : Sized j) (h : count j < room)
       ∙ ap (λ (z : Memory). undone k entered z) (restored-near m a n r)
       ∙ undone-same k entered j m before
     where
-    k : ℕ
-    k = count j
-    up : k + 1 ≡ suc k
-    up = omega arith
-    place-k : getD (set (set (j .places) (k + 1) a) 0 (k + 1)) (suc k) 0 ≡ a
-    place-k =
-        getD-set-other (set (j .places) (k + 1) a) 0 (suc k) (k + 1) 0 (omega arith)
-        ∙ ap (λ (x : ℕ). getD (set (j .places) (k + 1) a) x 0) (sym up) ∙ getD-set-same (j .places) (k + 1) a 0 (omega (arith, s .places, h))
-    word-k : getD (set (j .words) k (fourBytes m a)) k [] ≡ fourBytes m a
-    word-k = getD-set-same (j .words) k (fourBytes m a) [] (omega (arith, s .words, h))
-    before : (x : ℕ) → x < k → (getD (entered .places) (suc x) 0 ≡ getD (j .places) (suc x) 0) × (getD (entered .words) x [] ≡ getD (j .words) x [])
-    before x l =
-        (getD-set-other (set (j .places) (k + 1) a) 0 (suc x) (k + 1) 0 (omega arith) ∙ getD-set-other (j .places) (k + 1) (suc x) a 0 (omega arith),
-        getD-set-other (j .words) k x (fourBytes m a) [] (omega arith))
+      k : ℕ
+      k = count j
+
+      up : k + 1 ≡ suc k
+      up = omega arith
+
+      place-k : getD (set (set (j .places) (k + 1) a) 0 (k + 1)) (suc k) 0 ≡ a
+      place-k =
+          getD-set-other (set (j .places) (k + 1) a) 0 (suc k) (k + 1) 0 (omega arith)
+          ∙ ap (λ (x : ℕ). getD (set (j .places) (k + 1) a) x 0) (sym up) ∙ getD-set-same (j .places) (k + 1) a 0 (omega (arith, s .places, h))
+
+      word-k : getD (set (j .words) k (fourBytes m a)) k [] ≡ fourBytes m a
+      word-k = getD-set-same (j .words) k (fourBytes m a) [] (omega (arith, s .words, h))
+
+      before : (x : ℕ) → x < k → (getD (entered .places) (suc x) 0 ≡ getD (j .places) (suc x) 0) × (getD (entered .words) x [] ≡ getD (j .words) x [])
+      before x l = (
+        getD-set-other (set (j .places) (k + 1) a) 0 (suc x) (k + 1) 0 (omega arith) ∙ getD-set-other (j .places) (k + 1) (suc x) a 0 (omega arith),
+        getD-set-other (j .words) k x (fourBytes m a) [] (omega arith),
+      )

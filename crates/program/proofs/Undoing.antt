@@ -58,7 +58,7 @@ one-note t a n s h f r =
       length = r .length;
       sized = note-sized a (t .memory) (t .log) s h f;
       most = omega (arith, note-count a (t .memory) (t .log) s h f);
-      undoes = note-undo a (t .memory) (t .log) s h f n r
+      undoes = note-undo a (t .memory) (t .log) s h f n r;
     }
 
 -- ---- a store stays in its word
@@ -77,16 +77,16 @@ store-near : (n : ℕ) (m : Memory) (pa v : ℕ) → pa % 4 + n ≤ 4 → Near m
 store-near n m pa v h =
     record {
       length = length-stored n m pa v;
-      other = λ x d. byte-other n m pa v x (apart x d (decLt x pa))
+      other = λ x d. byte-other n m pa v x (apart x d (decLt x pa));
     }
   where
-  apart : (x : ℕ) → (pa / 4 * 4 ≤ x → x < pa / 4 * 4 + 4 → ⊥) → Dec (x < pa) → (x < pa) ⊎ (pa + n ≤ x)
-  apart x d (yes l) = inl l
-  apart x d (no l) = inr (beyond (decLt x (pa / 4 * 4 + 4)))
-    where
-    beyond : Dec (x < pa / 4 * 4 + 4) → pa + n ≤ x
-    beyond (yes k) = absurd (d (omega arith) k)
-    beyond (no k) = omega arith
+    apart : (x : ℕ) → (pa / 4 * 4 ≤ x → x < pa / 4 * 4 + 4 → ⊥) → Dec (x < pa) → (x < pa) ⊎ (pa + n ≤ x)
+    apart x d (yes l) = inl l
+    apart x d (no l) = inr (beyond (decLt x (pa / 4 * 4 + 4)))
+      where
+        beyond : Dec (x < pa / 4 * 4 + 4) → pa + n ≤ x
+        beyond (yes k) = absurd (d (omega arith) k)
+        beyond (no k) = omega arith
 
 word-held : (n : ℕ) (m : Memory) (pa : ℕ) → length m % 4 ≡ 0 → 0 < n → holds m pa n ≡ true → holds m (pa / 4 * 4) 4 ≡ true
 word-held n m pa e p h = le-leb (pa / 4 * 4 + 4) (length m) (omega (arith, leb-true (pa + n) (length m) h))
@@ -106,21 +106,21 @@ module _ (t : Journaled) (s : Sized (t .log)) (l : length (t .memory) % 4 ≡ 0)
   touch-undoing (probe r a) pa h b e = still t 1 s
   touch-undoing (write r w a v) pa h b e = go (holds (t .memory) pa (bytesOf w)) refl
     where
-    go : (c : Bool) → holds (t .memory) pa (bytesOf w) ≡ c
-        → Undoing t (record { memory = cond c (stored (bytesOf w) (t .memory) pa v) (t .memory); log = cond c (note (pa / 4 * 4) (t .memory) (t .log)) (t .log) }) 1
-    go true f =
-        one-note t (pa / 4 * 4) _ s h (word-held (bytesOf w) (t .memory) pa l (some w) f)
-        (store-near (bytesOf w) (t .memory) pa v (inside w (addressOf (write r w a v)) pa (eqb-true _ _ b) e))
-    go false f = still t 1 s
+      go : (c : Bool) → holds (t .memory) pa (bytesOf w) ≡ c
+          → Undoing t (record { memory = cond c (stored (bytesOf w) (t .memory) pa v) (t .memory); log = cond c (note (pa / 4 * 4) (t .memory) (t .log)) (t .log) }) 1
+      go true f =
+          one-note t (pa / 4 * 4) _ s h (word-held (bytesOf w) (t .memory) pa l (some w) f)
+          (store-near (bytesOf w) (t .memory) pa v (inside w (addressOf (write r w a v)) pa (eqb-true _ _ b) e))
+      go false f = still t 1 s
 
   entry-undoing : (k : Kind) (p : ℕ) → count (t .log) < room → holds (t .memory) p 4 ≡ true
       → Undoing t (record { memory = recorded k p (t .memory); log = entryNote k p (t .memory) (t .log) }) 1
   unfolding recorded entryNote
   entry-undoing k p h f = go (fresh k p (t .memory))
     where
-    go : (c : Bool) → Undoing t (record { memory = cond c (set (t .memory) (p + 3) (marked k (byteAt (t .memory) (p + 3)))) (t .memory); log = cond c (note p (t .memory) (t .log)) (t .log) }) 1
-    go true = one-note t p _ s h f (entry-near (t .memory) p _)
-    go false = still t 1 s
+      go : (c : Bool) → Undoing t (record { memory = cond c (set (t .memory) (p + 3) (marked k (byteAt (t .memory) (p + 3)))) (t .memory); log = cond c (note p (t .memory) (t .log)) (t .log) }) 1
+      go true = one-note t p _ s h f (entry-near (t .memory) p _)
+      go false = still t 1 s
 
   walk-undoing : (q : Access) (p : ℕ) → count (t .log) < room → holds (t .memory) p 4 ≡ true
       → Undoing t (record { memory = noted q p (t .memory); log = walkNote q p (t .memory) (t .log) }) 1
@@ -147,12 +147,13 @@ module _ (q : Access) (t : Journaled) (s : Sized (t .log)) (l : length (t .memor
   unfolding logging access accessNote
   access-undoing = go (aligned q) refl
     where
-    w : Walk
-    w = route (regimeOf q) (kindOf q) (addressOf q) (t .memory)
-    go : (b : Bool) → aligned q ≡ b
-        → Undoing t (record { memory = cond b (follow q (t .memory) w) (gave (bad alignmentFault) (t .memory)) .world; log = cond b (followNote q (t .memory) w (t .log)) (t .log) }) 2
-    go true e = follow-undoing w e (route-ends (regimeOf q) (kindOf q) (addressOf q) (t .memory))
-    go false e = still t 2 s
+      w : Walk
+      w = route (regimeOf q) (kindOf q) (addressOf q) (t .memory)
+
+      go : (b : Bool) → aligned q ≡ b
+          → Undoing t (record { memory = cond b (follow q (t .memory) w) (gave (bad alignmentFault) (t .memory)) .world; log = cond b (followNote q (t .memory) w (t .log)) (t .log) }) 2
+      go true e = follow-undoing w e (route-ends (regimeOf q) (kindOf q) (addressOf q) (t .memory))
+      go false e = still t 2 s
 
 -- a program of at most n accesses
 pub interpret-undoing : {A : Type 0} (Q : Access → Type 0) (P : A → Type 0) (n : ℕ) (p : Program A) (t : Journaled) → Bounded Q P n p
@@ -163,5 +164,5 @@ interpret-undoing Q P zero (ask q k) t b s l h = absurd b
 interpret-undoing Q P (suc n) (ask q k) t b s l h =
     let u = access-undoing q t s l (omega arith) in
     let v = interpret-undoing Q P n (k (logging q t .out)) (logging q t .world) (b .1 (logging q t .out)) (u .sized)
-        (ap (λ (x : ℕ). x % 4) (u .length) ∙ l) (omega (arith, u .most)) in
+    (ap (λ (x : ℕ). x % 4) (u .length) ∙ l) (omega (arith, u .most)) in
     record { length = v .length ∙ u .length; sized = v .sized; most = omega (arith, u .most, v .most); undoes = v .undoes ∙ u .undoes }

@@ -87,7 +87,7 @@ module _ (i : DyadicInstruction) (h : dyadicHasCode i ≡ true) where
       let w = i .wide in
       let pre = i .prefix in
       let c : Cut _ _ _ _ = cut w (dyadicListed (i .row) .opcode) (operandCode (i .source)) (operandCode (i .destination))
-          (opcode-lt (i .row)) (code-lt (i .source)) (code-lt (i .destination)) in
+      (opcode-lt (i .row)) (code-lt (i .source)) (code-lt (i .destination)) in
       let three = and-left _ (fits w (i .destination)) has-modes in
       let two = and-left _ (fits w (i .source)) three in
       let s = operand-back pre w (i .source) (and-left _ (hasMode pre (i .destination)) two) (and-right (hasMode pre (i .source) && hasMode pre (i .destination)) _ three) in
@@ -115,7 +115,7 @@ kept : (m : Mode) (x : ℕ) → x < 0x1_0000 → fits Three (General m x) ≡ lt
 kept m x h e f =
     record {
       fit = ap (λ (n : ℕ). fits Three (General m n)) f ∙ e ∙ lt-ltb x 0x1_0000 h;
-      field = ap (λ (n : ℕ). n % 65536) f ∙ mod-eq-of-lt {n = x} {m = 65536} h
+      field = ap (λ (n : ℕ). n % 65536) f ∙ mod-eq-of-lt {n = x} {m = 65536} h;
     }
 
 extended-low : (x : ℕ) → x < 0x1_0000 → signExtendOf 16 x % 65536 ≡ x
@@ -125,7 +125,7 @@ grown : (m : Mode) (x : ℕ) → x < 0x1_0000 → ((n : ℕ) → fits Three (Gen
 grown m x h e f =
     record {
       fit = ap (λ (n : ℕ). fits Three (General m n)) f ∙ e (signExtendOf 16 x) ∙ eq-eqb _ _ (ap (signExtendOf 16) (extended-low x h));
-      field = ap (λ (n : ℕ). n % 65536) f ∙ extended-low x h
+      field = ap (λ (n : ℕ). n % 65536) f ∙ extended-low x h;
     }
 
 valued : (w : Wide) (m : Mode) (x : ℕ) → x < limitOf w → Valued w m x
@@ -168,7 +168,7 @@ operand-there w pre mode.Register k x q t l c e =
       code = t .0;
       mode = ap (λ (b : Bool). hasMode b (Register (x % 16))) (t .1);
       fit = lt-ltb (x % 16) 16 (omega arith);
-      field = number-field w x s
+      field = number-field w x s;
     })
 operand-there w pre mode.Unlisted k x q t l c e = let z : _≡_ {A = ℕ} 0 1 = cc in absurd (omega arith)
 
@@ -194,7 +194,7 @@ module _ (w : Wide) (pre : Bool) (o s d x y : ℕ) where
         parcels =
             rw (ew, ep, fs .mode, fd .mode, fs .fit, fd .fit, ea, eo, fs .code, fd .code)
             (ap (λ (t : Text). Parcels (withPrefix pre t)) (same-text w o s d _ _ x y (fs .field) (fd .field)));
-        length = rw (ew, ep) refl
+        length = rw (ew, ep) refl;
       }
 
   dyadic-there : (e : DyadicEntry) (fs fd : OperandFound) (j : Instruction) → RowThere e o
@@ -203,11 +203,11 @@ module _ (w : Wide) (pre : Bool) (o s d x y : ℕ) where
   dyadic-there (entry.Row r u) (found.Is a) (found.Is b) j t hs hd e =
       by-test (legalOf u a b)
       (λ l.
-        let i : DyadicInstruction = record { row = r; wide = w; prefix = pre; source = a; destination = b } in
-        let q : Is (instruction.Dyadic i) ≡ Is j = simp l at e in
-        let k : instruction.Dyadic i ≡ j = cc in
-        subst (Encodes w pre o s d x y) k
-        (row-encodes i refl refl (t .0) (hs a refl) (hd b refl) (same-rule (dyadicListed r .operands) a b ∙ ap (λ v. legalOf v a b) (t .1) ∙ l)))
+      let i : DyadicInstruction = record { row = r; wide = w; prefix = pre; source = a; destination = b } in
+      let q : Is (instruction.Dyadic i) ≡ Is j = simp l at e in
+      let k : instruction.Dyadic i ≡ j = cc in
+      subst (Encodes w pre o s d x y) k
+      (row-encodes i refl refl (t .0) (hs a refl) (hd b refl) (same-rule (dyadicListed r .operands) a b ∙ ap (λ v. legalOf v a b) (t .1) ∙ l)))
       (λ l. let q : Illegal ≡ Is j = simp l at e in let z : _≡_ {A = ℕ} 0 1 = cc in absurd (omega arith))
   dyadic-there (entry.Row r u) (found.Is a) found.Nothing j t hs hd e = let z : _≡_ {A = ℕ} 0 1 = cc in absurd (omega arith)
   dyadic-there (entry.Row r u) found.Nothing (found.Is b) j t hs hd e = let z : _≡_ {A = ℕ} 0 1 = cc in absurd (omega arith)

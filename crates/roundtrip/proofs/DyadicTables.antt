@@ -335,4 +335,3 @@ ModeThere pre mode.Unlisted k = Unit {0}
 pub mode-there : (pre : Bool) (k : ℕ) → k < 16 → ModeThere pre (modeEntry pre k) k
 mode-there false k h = within (λ n. ModeThere false (modeEntry false n) n) 0 16 ((((((((((((((((tt, (refl, λ v. refl)), (refl, λ v. refl)), (refl, λ v. refl)), (refl, λ v. refl)), (refl, λ v. refl)), (refl, λ v. refl)), (refl, λ v. refl)), (refl, λ v. refl)), (refl, λ v. refl)), (refl, λ v. refl)), (refl, λ v. refl)), (refl, λ v. refl)), (refl, λ v. refl)), (refl, λ v. refl)), (refl, λ v. refl)), (refl, λ v. refl)) k zero-le h
 mode-there true k h = within (λ n. ModeThere true (modeEntry true n) n) 0 16 ((((((((((((((((tt, tt), tt), tt), tt), tt), tt), tt), (refl, refl)), tt), tt), tt), tt), (refl, λ v. refl)), (refl, λ v. refl)), (refl, λ v. refl)), (refl, λ v. refl)) k zero-le h
-

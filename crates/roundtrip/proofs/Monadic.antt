@@ -92,9 +92,9 @@ positive v =
 negative : (v : ℕ) → not (ltb v 0x8000_0000) ≡ leb 0x8000_0000 v
 negative v = ap not (positive v) ∙ twice (leb 0x8000_0000 v)
   where
-  twice : (b : Bool) → not (not b) ≡ b
-  twice true = refl
-  twice false = refl
+    twice : (b : Bool) → not (not b) ≡ b
+    twice true = refl
+    twice false = refl
 
 -- a mode that a row takes stands at its number, and is judged as the decoder judges it
 record Taken (c : Single) (m : MonadicMode) (v : ℕ) : Type 0 where
@@ -206,9 +206,9 @@ module _ (pre : Bool) (k j v : ℕ) where
   mode-encodes r u (place.Is m) i ej eu t e =
       by-test (monadicLegalOf u m v)
       (λ l.
-        let q : Is (instruction.Monadic (record { row = r; prefix = pre; mode = m; value = v })) ≡ Is i = simp l at e in
-        let s : instruction.Monadic (record { row = r; prefix = pre; mode = m; value = v }) ≡ i = cc in
-        subst (Encodes pre k j v) s (row-encodes r m ej (t .0) (t .1 v ∙ ap (λ (w : MonadicRule). monadicLegalOf w m v) eu ∙ l)))
+      let q : Is (instruction.Monadic (record { row = r; prefix = pre; mode = m; value = v })) ≡ Is i = simp l at e in
+      let s : instruction.Monadic (record { row = r; prefix = pre; mode = m; value = v }) ≡ i = cc in
+      subst (Encodes pre k j v) s (row-encodes r m ej (t .0) (t .1 v ∙ ap (λ (w : MonadicRule). monadicLegalOf w m v) eu ∙ l)))
       (λ l. let q : Illegal ≡ Is i = simp l at e in let z : _≡_ {A = ℕ} 0 1 = cc in absurd (omega arith))
   mode-encodes r u place.Unlisted i ej eu t e = let z : _≡_ {A = ℕ} 0 1 = cc in absurd (omega arith)
 

@@ -42,10 +42,10 @@ short-first p j e =
     by-test (eqb p cpuPrefix)
     (λ t. let q : Refused cutText ≡ Is j = simp t at e in let z : _≡_ {A = ℕ} 0 1 = cc in absurd (omega arith))
     (λ t. by-test (ltb p 0x8000)
-      (λ s. (ltb-true p 0x8000 s, simp (t, s) at e, eqb-false p cpuPrefix t))
-      (λ s. by-test (ltb p 0xC000)
-        (λ u. let q : Refused cutText ≡ Is j = simp (t, s, u) at e in let z : _≡_ {A = ℕ} 0 1 = cc in absurd (omega arith))
-        (λ u. let q : Refused cutText ≡ Is j = simp (t, s, u) at e in let z : _≡_ {A = ℕ} 0 1 = cc in absurd (omega arith))))
+    (λ s. (ltb-true p 0x8000 s, simp (t, s) at e, eqb-false p cpuPrefix t))
+    (λ s. by-test (ltb p 0xC000)
+    (λ u. let q : Refused cutText ≡ Is j = simp (t, s, u) at e in let z : _≡_ {A = ℕ} 0 1 = cc in absurd (omega arith))
+    (λ u. let q : Refused cutText ≡ Is j = simp (t, s, u) at e in let z : _≡_ {A = ℕ} 0 1 = cc in absurd (omega arith))))
 
 short-text : (n p a b c d e : ℕ) → 1 ≤ n → p < 0x8000 → (p ≡ cpuPrefix → ⊥)
     → decodeOf (record { count = n; p0 = p; p1 = a; p2 = b; p3 = c; p4 = d; p5 = e }) ≡ decodeShort p
@@ -91,7 +91,7 @@ same : (t : Text) (j : Instruction) (n : ℕ) (u : Text) → lengthOf j ≡ n �
 same t j n u e h p q =
     record {
       enough = omega (arith, e);
-      parcels = at-length j ∙ p ∙ ap encoded.Parcels (q ∙ ap (λ (k : ℕ). firstParcels k t) (sym e))
+      parcels = at-length j ∙ p ∙ ap encoded.Parcels (q ∙ ap (λ (k : ℕ). firstParcels k t) (sym e));
     }
 
 long-bare : (t : Text) (j : Instruction) → 1 ≤ t .count → Long false (t .count - 1) (t .p0) (t .p1) (t .p2) (t .p3) (t .p4) j → Same t j
@@ -128,31 +128,31 @@ short-same : (p : ℕ) (j : Instruction) → p < 0x8000 → decodeShort p ≡ Is
 unfolding decodeShort
 short-same p j h e = short-answer (shortEntry (shortOf (p / 1024 % 32)) p) p j (λ i q. back i q) e
   where
-  back : (i : ShortInstruction) → Is (instruction.Short i) ≡ Is j → Same (text1 p) j
-  back i q =
-      let r : instruction.Short i ≡ j = cc in
-      subst (Same (text1 p)) r
-      (same (text1 p) (instruction.Short i) 1 (text1 p) refl (omega arith) (short.decode-encode p i h (subst (λ (k : Instruction). decodeShort p ≡ Is k) (sym r) e)) refl)
+    back : (i : ShortInstruction) → Is (instruction.Short i) ≡ Is j → Same (text1 p) j
+    back i q =
+        let r : instruction.Short i ≡ j = cc in
+        subst (Same (text1 p)) r
+        (same (text1 p) (instruction.Short i) 1 (text1 p) refl (omega arith) (short.decode-encode p i h (subst (λ (k : Instruction). decodeShort p ≡ Is k) (sym r) e)) refl)
 
 short-length : (p : ℕ) (j : Instruction) → decodeShort p ≡ Is j → lengthOf j ≡ 1
 unfolding decodeShort
 short-length p j e = go (shortEntry (shortOf (p / 1024 % 32)) p) e
   where
-  go : (x : ShortEntry) → shortAnswer x p ≡ Is j → lengthOf j ≡ 1
-  go (entry.Row r s d) f = let q : instruction.Short (shortInstruction r s d p) ≡ j = cc in ap lengthOf (sym q)
-  go entry.Stack f = let z : _≡_ {A = ℕ} 0 1 = cc in absurd (omega arith)
-  go entry.Niladic f = let z : _≡_ {A = ℕ} 0 1 = cc in absurd (omega arith)
-  go entry.Prefix f = let z : _≡_ {A = ℕ} 0 1 = cc in absurd (omega arith)
-  go entry.Unimplemented f = let z : _≡_ {A = ℕ} 0 1 = cc in absurd (omega arith)
-  go entry.Trap f = let z : _≡_ {A = ℕ} 0 1 = cc in absurd (omega arith)
-  go entry.Unlisted f = let z : _≡_ {A = ℕ} 0 1 = cc in absurd (omega arith)
+    go : (x : ShortEntry) → shortAnswer x p ≡ Is j → lengthOf j ≡ 1
+    go (entry.Row r s d) f = let q : instruction.Short (shortInstruction r s d p) ≡ j = cc in ap lengthOf (sym q)
+    go entry.Stack f = let z : _≡_ {A = ℕ} 0 1 = cc in absurd (omega arith)
+    go entry.Niladic f = let z : _≡_ {A = ℕ} 0 1 = cc in absurd (omega arith)
+    go entry.Prefix f = let z : _≡_ {A = ℕ} 0 1 = cc in absurd (omega arith)
+    go entry.Unimplemented f = let z : _≡_ {A = ℕ} 0 1 = cc in absurd (omega arith)
+    go entry.Trap f = let z : _≡_ {A = ℕ} 0 1 = cc in absurd (omega arith)
+    go entry.Unlisted f = let z : _≡_ {A = ℕ} 0 1 = cc in absurd (omega arith)
 
 -- only the first parcel of a one-parcel instruction counts
 widened : (t : Text) (j : Instruction) → 1 ≤ t .count → lengthOf j ≡ 1 → Same (text1 (t .p0)) j → Same t j
 widened t j h e s =
     record {
       enough = omega (arith, e);
-      parcels = s .parcels ∙ ap (λ (k : ℕ). encoded.Parcels (firstParcels k (text1 (t .p0)))) e ∙ ap (λ (k : ℕ). encoded.Parcels (firstParcels k t)) (sym e)
+      parcels = s .parcels ∙ ap (λ (k : ℕ). encoded.Parcels (firstParcels k (text1 (t .p0)))) e ∙ ap (λ (k : ℕ). encoded.Parcels (firstParcels k t)) (sym e);
     }
 
 pub text-encode : (t : Text) (j : Instruction) → Sixteen t → unusedZero t ≡ true → decodeOf t ≡ Is j → Same t j
@@ -161,26 +161,26 @@ text-encode t j b u e =
     by-test (ltb (t .count) 1)
     (λ n. let q : Refused cutText ≡ Is j = simp n at e in let z : _≡_ {A = ℕ} 0 1 = cc in absurd (omega arith))
     (λ n. by-test (eqb (t .p0) cpuPrefix)
-      (λ p. by-test (ltb (t .count) 2)
-        (λ m. let q : Refused cutText ≡ Is j = simp (n, p, m) at e in let z : _≡_ {A = ℕ} 0 1 = cc in absurd (omega arith))
-        (λ m. by-test (ltb (t .p1) 0x8000)
-          (λ k. let q : Illegal ≡ Is j = simp (n, p, m, k) at e in let z : _≡_ {A = ℕ} 0 1 = cc in absurd (omega arith))
-          (λ k.
-            long-prefixed t j (eqb-true (t .p0) cpuPrefix p) (ltb-false (t .count) 2 m)
-            (wide-back true (t .count - 2) (t .p1) (t .p2) (t .p3) (t .p4) (t .p5) j (b .b2) (b .b3) (b .b4) (b .b5)
-            (ltb-false (t .p1) 0x8000 k) (b .b1) (λ _. simp p at u) (simp (n, p, m, k) at e)))))
-      (λ p. by-test (ltb (t .p0) 0x8000)
-        (λ k. bare-short n p k)
-        (λ k.
-          long-bare t j (ltb-false (t .count) 1 n)
-          (wide-back false (t .count - 1) (t .p0) (t .p1) (t .p2) (t .p3) (t .p4) j (b .b1) (b .b2) (b .b3) (b .b4)
-          (ltb-false (t .p0) 0x8000 k) (b .b0) (λ z. let y : _≡_ {A = ℕ} 0 1 = cc in absurd (omega arith)) (simp (n, p, k) at e)))))
+    (λ p. by-test (ltb (t .count) 2)
+    (λ m. let q : Refused cutText ≡ Is j = simp (n, p, m) at e in let z : _≡_ {A = ℕ} 0 1 = cc in absurd (omega arith))
+    (λ m. by-test (ltb (t .p1) 0x8000)
+    (λ k. let q : Illegal ≡ Is j = simp (n, p, m, k) at e in let z : _≡_ {A = ℕ} 0 1 = cc in absurd (omega arith))
+    (λ k.
+    long-prefixed t j (eqb-true (t .p0) cpuPrefix p) (ltb-false (t .count) 2 m)
+    (wide-back true (t .count - 2) (t .p1) (t .p2) (t .p3) (t .p4) (t .p5) j (b .b2) (b .b3) (b .b4) (b .b5)
+    (ltb-false (t .p1) 0x8000 k) (b .b1) (λ _. simp p at u) (simp (n, p, m, k) at e)))))
+    (λ p. by-test (ltb (t .p0) 0x8000)
+    (λ k. bare-short n p k)
+    (λ k.
+    long-bare t j (ltb-false (t .count) 1 n)
+    (wide-back false (t .count - 1) (t .p0) (t .p1) (t .p2) (t .p3) (t .p4) j (b .b1) (b .b2) (b .b3) (b .b4)
+    (ltb-false (t .p0) 0x8000 k) (b .b0) (λ z. let y : _≡_ {A = ℕ} 0 1 = cc in absurd (omega arith)) (simp (n, p, k) at e)))))
   where
-  bare-short : ltb (t .count) 1 ≡ false → eqb (t .p0) cpuPrefix ≡ false → ltb (t .p0) 0x8000 ≡ true → Same t j
-  bare-short n p k =
-      let d : decodeShort (t .p0) ≡ Is j = simp (n, p, k) at e in
-      let s = short-same (t .p0) j (ltb-true (t .p0) 0x8000 k) d in
-      widened t j (ltb-false (t .count) 1 n) (short-length (t .p0) j d) s
+    bare-short : ltb (t .count) 1 ≡ false → eqb (t .p0) cpuPrefix ≡ false → ltb (t .p0) 0x8000 ≡ true → Same t j
+    bare-short n p k =
+        let d : decodeShort (t .p0) ≡ Is j = simp (n, p, k) at e in
+        let s = short-same (t .p0) j (ltb-true (t .p0) 0x8000 k) d in
+        widened t j (ltb-false (t .count) 1 n) (short-length (t .p0) j d) s
 
 -- ---- the same of a list of parcels
 
@@ -202,11 +202,11 @@ decode-encode ps j b u e =
     let s = text-encode (textOf ps) j (record { b0 = b 0; b1 = b 1; b2 = b 2; b3 = b 3; b4 = b 4; b5 = b 5 }) u e in
     s .parcels ∙ ap encoded.Parcels (first-take (lengthOf j) ps (positive j) (s .enough))
   where
-  positive : (i : Instruction) → 1 ≤ lengthOf i
-  positive (instruction.Short i) = omega arith
-  positive (instruction.Dyadic i) = go (i .wide)
-    where
-    go : (w : Wide) → 1 ≤ wideLength w + prefixLength (i .prefix)
-    go Three = omega arith
-    go Five = omega arith
-  positive (instruction.Monadic i) = omega arith
+    positive : (i : Instruction) → 1 ≤ lengthOf i
+    positive (instruction.Short i) = omega arith
+    positive (instruction.Dyadic i) = go (i .wide)
+      where
+        go : (w : Wide) → 1 ≤ wideLength w + prefixLength (i .prefix)
+        go Three = omega arith
+        go Five = omega arith
+    positive (instruction.Monadic i) = omega arith

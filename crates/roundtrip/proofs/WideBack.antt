@@ -38,7 +38,7 @@ module _ (pre : Bool) (n p a b c d : ℕ) (j : Instruction) (ha : a < 65536) (hb
       → decodeDyadic Three pre p a b ≡ Is j → Long pre n p a b c d j
   three-dyadic m l u k e =
       let f = dyadic.dyadic-encodes Three pre p a b j ha hb
-          (λ t. and-left _ (registerClear (p % 16) b) (k t)) (λ t. and-right (registerClear (p / 16 % 16) a) _ (k t)) e in
+      (λ t. and-left _ (registerClear (p % 16) b) (k t)) (λ t. and-right (registerClear (p / 16 % 16) a) _ (k t)) e in
       let w = dyadic.whole Three p l u in
       let ea : a % 65536 ≡ a = mod-eq-of-lt {n = a} {m = 65536} ha in
       let eb : b % 65536 ≡ b = mod-eq-of-lt {n = b} {m = 65536} hb in
@@ -49,7 +49,7 @@ module _ (pre : Bool) (n p a b c d : ℕ) (j : Instruction) (ha : a < 65536) (hb
       → decodeDyadic Five pre p (joined a b) (joined c d) ≡ Is j → Long pre n p a b c d j
   five-dyadic m l u k e =
       let f = dyadic.dyadic-encodes Five pre p (joined a b) (joined c d) j (omega arith) (omega arith)
-          (λ t. and-left _ (registerClear (p % 16) (joined c d)) (k t)) (λ t. and-right (registerClear (p / 16 % 16) (joined a b)) _ (k t)) e in
+      (λ t. and-left _ (registerClear (p % 16) (joined c d)) (k t)) (λ t. and-right (registerClear (p / 16 % 16) (joined a b)) _ (k t)) e in
       let w = dyadic.whole Five p l u in
       let ea : joined a b / 65536 ≡ a = omega arith in
       let eb : joined a b % 65536 ≡ b = omega arith in
@@ -69,8 +69,8 @@ module _ (pre : Bool) (n p a b c d : ℕ) (j : Instruction) (ha : a < 65536) (hb
   wide-back l u k e =
       by-test (ltb p 0xC000)
       (λ t. by-test (ltb n 2)
-        (λ s. let q : Refused cutText ≡ Is j = simp (t, s) at e in let z : _≡_ {A = ℕ} 0 1 = cc in absurd (omega arith))
-        (λ s. three-back (ltb-false n 2 s) l (ltb-true p 0xC000 t) k (simp (t, s) at e)))
+      (λ s. let q : Refused cutText ≡ Is j = simp (t, s) at e in let z : _≡_ {A = ℕ} 0 1 = cc in absurd (omega arith))
+      (λ s. three-back (ltb-false n 2 s) l (ltb-true p 0xC000 t) k (simp (t, s) at e)))
       (λ t. by-test (ltb n 4)
-        (λ s. let q : Refused cutText ≡ Is j = simp (t, s) at e in let z : _≡_ {A = ℕ} 0 1 = cc in absurd (omega arith))
-        (λ s. five-dyadic (ltb-false n 4 s) (ltb-false p 0xC000 t) u (λ r. simp t at (k r)) (simp (t, s) at e)))
+      (λ s. let q : Refused cutText ≡ Is j = simp (t, s) at e in let z : _≡_ {A = ℕ} 0 1 = cc in absurd (omega arith))
+      (λ s. five-dyadic (ltb-false n 4 s) (ltb-false p 0xC000 t) u (λ r. simp t at (k r)) (simp (t, s) at e)))

@@ -36,5 +36,5 @@ firstParcels n t =
       p2 = cond (ltb 2 n) (t .p2) 0;
       p3 = cond (ltb 3 n) (t .p3) 0;
       p4 = cond (ltb 4 n) (t .p4) 0;
-      p5 = cond (ltb 5 n) (t .p5) 0
+      p5 = cond (ltb 5 n) (t .p5) 0;
     }

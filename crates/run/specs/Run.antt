@@ -72,18 +72,18 @@ abbrev pub isKcall : Normal → Bool
 isKcall (twoOperands w t s d) = false
 isKcall (oneOperand o m v) = kcalls o
   where
-  kcalls : Monadic → Bool
-  kcalls monadic.Kcall = true
-  kcalls monadic.Call = false
-  kcalls monadic.Return = false
-  kcalls monadic.Jmp = false
-  kcalls monadic.JmpFalse = false
-  kcalls monadic.JmpTrue = false
-  kcalls monadic.Catch = false
-  kcalls monadic.Enter = false
-  kcalls monadic.Ldraa = false
-  kcalls monadic.Flush = false
-  kcalls monadic.Popn = false
+    kcalls : Monadic → Bool
+    kcalls monadic.Kcall = true
+    kcalls monadic.Call = false
+    kcalls monadic.Return = false
+    kcalls monadic.Jmp = false
+    kcalls monadic.JmpFalse = false
+    kcalls monadic.JmpTrue = false
+    kcalls monadic.Catch = false
+    kcalls monadic.Enter = false
+    kcalls monadic.Ldraa = false
+    kcalls monadic.Flush = false
+    kcalls monadic.Popn = false
 isKcall (noOperand o) = false
 
 unfoldable pub tryActed : Cpu → Met → Program (Out Tried)

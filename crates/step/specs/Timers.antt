@@ -21,11 +21,11 @@ counts2 config kernel completed =
 abbrev pub ticked : Cpu → ℕ → ℕ → Bool → Cpu
 ticked c k due on = overflowed (eqb (plusOf (reg c k) 1) 0 && on) (with c k (plusOf (reg c k) 1))
   where
-  overflowed : Bool → Cpu → Cpu
-  overflowed b d = cond b (with d due 1) d
+    overflowed : Bool → Cpu → Cpu
+    overflowed b d = cond b (with d due 1) d
 
 unfoldable pub counted : ℕ → Bool → Bool → Cpu → Cpu
 counted config kernel completed c = second (cond (counts1 config kernel completed) (ticked c timer1 timer1Due (bitOf config 24)) c)
   where
-  second : Cpu → Cpu
-  second d = cond (counts2 config kernel completed) (ticked d timer2 timer2Due (bitOf config 31)) d
+    second : Cpu → Cpu
+    second d = cond (counts2 config kernel completed) (ticked d timer2 timer2Due (bitOf config 31)) d

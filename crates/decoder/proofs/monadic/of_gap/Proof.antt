@@ -1,5 +1,4 @@
 use borrow.Author.Tests.{lt-ltb, le-ltb}
-use borrow.Author.Needs.{needs}
 use Rattle.decoder.proofs.monadic.of_gap.Statement.{statement}
 use Rattle.decoder.proofs.monadic.of_gap.Tie as tie
 

@@ -1,5 +1,4 @@
 use borrow.Author.Tests.{lt-ltb, le-ltb}
-use borrow.Author.Needs.{needs}
 use Rattle.decoder.proofs.wide.find_form.Statement.{statement}
 use Rattle.decoder.proofs.wide.find_form.Tie as tie
 

@@ -1,5 +1,4 @@
 use borrow.Author.Tests.{le-leb, lt-leb}
-use borrow.Author.Needs.{needs}
 use Rattle.tables.proofs.legal.not_negative.Statement.{statement}
 use Rattle.tables.proofs.legal.not_negative.Tie as tie
 

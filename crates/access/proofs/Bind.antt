@@ -1,0 +1,41 @@
+-- One part after another under the journal, and a part that is one access.
+-- Assumes nothing.
+use mathlib.Core.Path.{_≡_, refl, sym, ap, _∙_}
+use Prim.Native.Nat.{ℕ}
+use Rattle.memory.specs.Answers.{Answer, got, bad}
+use Rattle.program.specs.Access.{Access, fetch, read, write, probe, Gave, gave}
+use Rattle.program.specs.Program.{Program, ret, ask, Handler, interpret, after}
+use Rattle.program.specs.Journal.{Journaled, logging}
+use Rattle.program.proofs.Interpret.{interpret-after}
+use Rattle.word.specs.declared.Width.{Width}
+use Rattle.word.specs.declared.Width.the-variants.{Word}
+use Rattle.machine.specs.Registers.{Bank}
+use Rattle.machine.specs.Cache.{Cache}
+use Rattle.machine.specs.Status.{Cpu, cpu, regime, kernelRegime}
+use Rattle.mmu.specs.declared.Regime.{Regime}
+use Rattle.access.specs.Parts.{Out, ok, stop, onward, _>>=_, replied, request, plainReplied, plainRequest, frameReplied, frameRequest}
+use Rattle.access.specs.Data.{readFrame, writeFrame, checkStore}
+use Rattle.access.specs.Text.{fetchParcel}
+
+pub bind : {A B : Type 0} (p : Program (Out A)) (f : A → Program (Out B)) (t : Journaled)
+    → interpret logging (p >>= f) t ≡ interpret logging (onward f (interpret logging p t .out)) (interpret logging p t .world)
+unfolding _>>=_
+bind p f t = interpret-after logging p (onward f) t
+
+-- a part that is one access, by what the code's access gave
+module _ (c : Cpu) (x : Answer) (t u : Journaled) where
+  pub requested : (q : Access) (a : ℕ) → gave x u ≡ logging q t → interpret logging (request c q a) t ≡ gave (replied c a x) u
+  unfolding request interpret
+  requested q a e = ap (λ (g : Gave Journaled Answer). gave (replied c a (g .out)) (g .world)) (sym e)
+
+  pub parcel-fetched : (a : ℕ) → gave x u ≡ logging (fetch (regime (c .bank)) a) t → interpret logging (fetchParcel c a) t ≡ gave (plainReplied c x) u
+  unfolding fetchParcel plainRequest interpret
+  parcel-fetched a e = ap (λ (g : Gave Journaled Answer). gave (plainReplied c (g .out)) (g .world)) (sym e)
+
+  pub frame-loaded : (a : ℕ) → gave x u ≡ logging (read (kernelRegime (c .bank)) Word a) t → interpret logging (readFrame c a) t ≡ gave (frameReplied c x) u
+  unfolding readFrame frameRequest interpret
+  frame-loaded a e = ap (λ (g : Gave Journaled Answer). gave (frameReplied c (g .out)) (g .world)) (sym e)
+
+  pub frame-stored : (a v : ℕ) → gave x u ≡ logging (write (kernelRegime (c .bank)) Word a v) t → interpret logging (writeFrame c a v) t ≡ gave (frameReplied c x) u
+  unfolding writeFrame frameRequest interpret
+  frame-stored a v e = ap (λ (g : Gave Journaled Answer). gave (frameReplied c (g .out)) (g .world)) (sym e)

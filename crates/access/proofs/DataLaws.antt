@@ -1,0 +1,129 @@
+-- The ways out of data, text and frame accesses.
+-- Assumes nothing.
+use Prim.Native.Nat.{ℕ, _%_}
+use mathlib.Core.Path.{_≡_, refl, sym, ap, _∙_}
+use mathlib.Core.Bool.{Bool, true, false, cond}
+use mathlib.Core.List.{List, []}
+use native.Mathlib.Omega.{arith}
+use lib.ListN.{getD}
+use lib.Dec.{eqb}
+use borrow.Author.Tests.{eq-eqb}
+use Rattle.word.specs.declared.Width.{Width}
+use Rattle.word.specs.declared.Width.the-variants.{Byte, Half, Word}
+use Rattle.word.specs.Widths.{bytesOf}
+use Rattle.memory.specs.Answers.{Answer, got, bad}
+use Rattle.memory.specs.Bytes.{Memory, placeOf}
+use Rattle.program.specs.Access.{Access, read, write, probe, fetch, alignmentFault, Gave, gave}
+use Rattle.program.specs.Program.{Program, ret, ask, interpret, after}
+use Rattle.program.specs.Journal.{Journaled, journaled, logging}
+use Rattle.machine.specs.Registers.{Bank}
+use Rattle.machine.specs.Cache.{Cache, cacheRead, cacheWrite}
+use Rattle.machine.specs.Status.{Cpu, cpu, cached, isLittle, isUser, isVirtual, regime, kernelRegime}
+use Rattle.handler.specs.Followed.{regimeFor, fitsWidth, onlyMemory}
+use Rattle.access.specs.Parts.{Out, ok, stop, onward, _>>=_, done, replied, request, plainReplied, plainRequest, frameReplied, frameRequest}
+use Rattle.access.specs.Data.{isAligned, readCached, readMemory, readData, writeCached, writeMemory, writeData, readFrame, writeFrame, checkStore}
+use Rattle.access.specs.Code.{wrote}
+
+fits-aligned : (w : Width) (a : ℕ) → fitsWidth w a ≡ isAligned w a
+fits-aligned Byte a = sym (eq-eqb (a % 1) 0 (omega arith))
+fits-aligned Half a = refl
+fits-aligned Word a = refl
+
+module _ (b : Bank) (q : Cache) (w : Width) (a : ℕ) where
+  -- ---- in the cache
+
+  pub cached-read : (h l : Bool) (p v : ℕ) (x : Answer) → h ≡ fitsWidth w a → h ≡ true → l ≡ isLittle b → p ≡ placeOf l w a → v ≡ cacheRead (bytesOf w) q p → x ≡ got v
+      → gave (replied (cpu b q) a x) (onlyMemory []) ≡ interpret logging (readCached (cpu b q) w a) (onlyMemory [])
+  unfolding readCached interpret
+  cached-read h l p v x e t el ep ev ex = rw (sym (fits-aligned w a) ∙ sym e ∙ t, ex, ev, ep, el) refl
+
+  pub cached-odd : (h : Bool) (x : Answer) → h ≡ fitsWidth w a → h ≡ false → x ≡ bad 4
+      → gave (replied (cpu b q) a x) (onlyMemory []) ≡ interpret logging (readCached (cpu b q) w a) (onlyMemory [])
+  unfolding readCached interpret
+  cached-odd h x e t ex = rw (sym (fits-aligned w a) ∙ sym e ∙ t, ex) refl
+
+  cached-any : (o : Out ℕ) (t : Journaled) → gave o (onlyMemory []) ≡ interpret logging (readCached (cpu b q) w a) (onlyMemory []) → gave o t ≡ interpret logging (readCached (cpu b q) w a) t
+  unfolding readCached interpret
+  cached-any o t e = go (isAligned w a) e
+    where
+      value : ℕ
+      value = cacheRead (bytesOf w) q (placeOf (isLittle b) w a)
+
+      go : (c : Bool) → gave o (onlyMemory []) ≡ interpret logging (cond c (done value) (ret (stop alignmentFault (cpu b q)))) (onlyMemory [])
+          → gave o t ≡ interpret logging (cond c (done value) (ret (stop alignmentFault (cpu b q)))) t
+      go true f = ap (λ (g : Gave Journaled (Out ℕ)). gave (g .out) t) f
+      go false f = ap (λ (g : Gave Journaled (Out ℕ)). gave (g .out) t) f
+
+  module _ (v : ℕ) where
+    pub cached-write : (h l : Bool) (p : ℕ) (x : Answer) (s : Cache) → h ≡ fitsWidth w a → h ≡ true → l ≡ isLittle b → p ≡ placeOf l w a → s ≡ cacheWrite (bytesOf w) q p v → x ≡ got 0
+        → gave (wrote (cpu b s) a x) (onlyMemory []) ≡ interpret logging (writeCached (cpu b q) w a v) (onlyMemory [])
+    unfolding writeCached interpret
+    cached-write h l p x s e t el ep es ex = rw (sym (fits-aligned w a) ∙ sym e ∙ t, ex, es, ep, el) refl
+
+    pub cached-write-odd : (h : Bool) (x : Answer) → h ≡ fitsWidth w a → h ≡ false → x ≡ bad 4
+        → gave (wrote (cpu b q) a x) (onlyMemory []) ≡ interpret logging (writeCached (cpu b q) w a v) (onlyMemory [])
+    unfolding writeCached interpret
+    cached-write-odd h x e t ex = rw (sym (fits-aligned w a) ∙ sym e ∙ t, ex) refl
+
+    cached-write-any : (o : Out Cpu) (t : Journaled) → gave o (onlyMemory []) ≡ interpret logging (writeCached (cpu b q) w a v) (onlyMemory []) → gave o t ≡ interpret logging (writeCached (cpu b q) w a v) t
+    unfolding writeCached interpret
+    cached-write-any o t e = go (isAligned w a) e
+      where
+        after-it : Cpu
+        after-it = cpu b (cacheWrite (bytesOf w) q (placeOf (isLittle b) w a) v)
+
+        go : (c : Bool) → gave o (onlyMemory []) ≡ interpret logging (cond c (done after-it) (ret (stop alignmentFault (cpu b q)))) (onlyMemory [])
+            → gave o t ≡ interpret logging (cond c (done after-it) (ret (stop alignmentFault (cpu b q)))) t
+        go true f = ap (λ (g : Gave Journaled (Out Cpu)). gave (g .out) t) f
+        go false f = ap (λ (g : Gave Journaled (Out Cpu)). gave (g .out) t) f
+
+  -- ---- the cache or memory
+
+  module _ (m : Memory) (i : List ℕ) (o : List (List ℕ)) where
+    pub data-cached : (h : Bool) (x : Answer) → h ≡ cached b a → h ≡ true
+        → gave (replied (cpu b q) a x) (onlyMemory []) ≡ interpret logging (readCached (cpu b q) w a) (onlyMemory [])
+        → gave (replied (cpu b q) a x) (journaled m i o) ≡ interpret logging (readData (cpu b q) w a) (journaled m i o)
+    unfolding readData
+    data-cached h x e t f = rw (sym e ∙ t) (cached-any (replied (cpu b q) a x) (journaled m i o) f)
+
+    pub data-memory : (h l u v : Bool) (p : ℕ) (x : Answer) (n : Memory) (j : List ℕ) (k : List (List ℕ)) → h ≡ cached b a → h ≡ false → l ≡ isLittle b → p ≡ placeOf l w a
+        → u ≡ isUser b → v ≡ isVirtual b → gave x (journaled n j k) ≡ logging (read (regimeFor (getD b 9 0) u v) w p) (journaled m i o)
+        → gave (replied (cpu b q) a x) (journaled n j k) ≡ interpret logging (readData (cpu b q) w a) (journaled m i o)
+    unfolding readData readMemory request interpret
+    data-memory h l u v p x n j k e t el ep eu ev f =
+        rw (sym e ∙ t, ← el, ← ep, ← eu, ← ev) (ap (λ (g : Gave Journaled Answer). gave (replied (cpu b q) a (g .out)) (g .world)) f)
+
+    pub stored-cached : (y : ℕ) (h : Bool) (x : Answer) (s : Cache) → h ≡ cached b a → h ≡ true
+        → gave (wrote (cpu b s) a x) (onlyMemory []) ≡ interpret logging (writeCached (cpu b q) w a y) (onlyMemory [])
+        → gave (wrote (cpu b s) a x) (journaled m i o) ≡ interpret logging (writeData (cpu b q) w a y) (journaled m i o)
+    unfolding writeData
+    stored-cached y h x s e t f = rw (sym e ∙ t) (cached-write-any y (wrote (cpu b s) a x) (journaled m i o) f)
+
+    pub stored-memory : (y : ℕ) (h l u v : Bool) (p : ℕ) (x : Answer) (n : Memory) (j : List ℕ) (k : List (List ℕ)) → h ≡ cached b a → h ≡ false → l ≡ isLittle b → p ≡ placeOf l w a
+        → u ≡ isUser b → v ≡ isVirtual b → gave x (journaled n j k) ≡ logging (write (regimeFor (getD b 9 0) u v) w p y) (journaled m i o)
+        → gave (wrote (cpu b q) a x) (journaled n j k) ≡ interpret logging (writeData (cpu b q) w a y) (journaled m i o)
+    unfolding writeData writeMemory request interpret _>>=_ after onward
+    stored-memory y h l u v p x n j k e t el ep eu ev f =
+        rw (sym e ∙ t, ← el, ← ep, ← eu, ← ev) (wrote-is x (journaled n j k) ∙ ap (λ (g : Gave Journaled Answer). interpret logging (onward (λ _. done (cpu b q)) (replied (cpu b q) a (g .out))) (g .world)) f)
+      where
+        wrote-is : (z : Answer) (u : Journaled) → gave (wrote (cpu b q) a z) u ≡ interpret logging (onward (λ _. done (cpu b q)) (replied (cpu b q) a z)) u
+        wrote-is (got y) u = refl
+        wrote-is (bad y) u = refl
+
+-- ---- text, frames, checks: the regime by its numbers
+
+pub text-memory : (b : Bank) (a : ℕ) (t : Journaled) (u v : Bool) (g : Gave Journaled Answer) → u ≡ isUser b → v ≡ isVirtual b
+    → g ≡ logging (fetch (regimeFor (getD b 9 0) u v) a) t → g ≡ logging (fetch (regime b) a) t
+text-memory b a t u v g eu ev f = f ∙ rw (eu, ev) refl
+
+pub frame-read : (b : Bank) (a : ℕ) (t : Journaled) (v : Bool) (g : Gave Journaled Answer) → v ≡ isVirtual b
+    → g ≡ logging (read (regimeFor (getD b 9 0) false v) Word a) t → g ≡ logging (read (kernelRegime b) Word a) t
+frame-read b a t v g ev f = f ∙ rw ev refl
+
+pub frame-write : (b : Bank) (a y : ℕ) (t : Journaled) (v : Bool) (g : Gave Journaled Answer) → v ≡ isVirtual b
+    → g ≡ logging (write (regimeFor (getD b 9 0) false v) Word a y) t → g ≡ logging (write (kernelRegime b) Word a y) t
+frame-write b a y t v g ev f = f ∙ rw ev refl
+
+pub store-check : (b : Bank) (a : ℕ) (t : Journaled) (u v : Bool) (g : Gave Journaled Answer) → u ≡ isUser b → v ≡ isVirtual b
+    → g ≡ logging (probe (regimeFor (getD b 9 0) u v) a) t → g ≡ logging (probe (regime b) a) t
+store-check b a t u v g eu ev f = f ∙ rw (eu, ev) refl

@@ -1,0 +1,4 @@
+pub mod DataLaws
+pub mod Bind
+pub mod TextLaws
+pub mod OperandLaws

@@ -1,0 +1,51 @@
+-- What the code's answers say, in the definitions' types.
+-- Assumes nothing.
+use Prim.Native.Nat.{ℕ, _+_, _/_, _%_, _^_}
+use mathlib.Core.Bool.{cond}
+use mathlib.Core.List.{List, [], _∷_}
+use lib.Dec.{eqb, ltb}
+use Rattle.word.specs.Sums.{plusOf}
+use Rattle.isa.specs.declared.Text.{Text}
+use Rattle.isa.specs.Decode.{joined}
+use Rattle.memory.specs.Answers.{Answer, got, bad}
+use Rattle.program.specs.Program.{Program}
+use Rattle.machine.specs.Registers.{Bank}
+use Rattle.machine.specs.Cache.{Cache}
+use Rattle.machine.specs.Status.{Cpu, cpu}
+use Rattle.access.specs.declared.text.Operands.{Operands}
+use Rattle.access.specs.declared.text.Fetched.{Fetched}
+use Rattle.access.specs.Parts.{Out, ok, stop, done, faulted, _>>=_}
+use Rattle.access.specs.Text.{fetchParcel}
+
+-- a write's answer at an address, with the machine after it
+abbrev pub wrote : Cpu → ℕ → Answer → Out Cpu
+wrote c a (got v) = ok c
+wrote c a (bad e) = stop e (faulted c e a)
+
+-- how a part of an instruction ended, with the registers and the cache as they then are
+abbrev pub ended : Answer → Bank → Cache → Out Cpu
+ended (got v) b q = ok (cpu b q)
+ended (bad e) b q = stop e (cpu b q)
+
+-- two parcels as one word
+unfoldable pub fetchTwo : Cpu → ℕ → Program (Out ℕ)
+fetchTwo c a = do
+  x ← fetchParcel c a
+  y ← fetchParcel c (plusOf a 2)
+  done (joined x y)
+
+abbrev pub joinedOut : Cpu → Answer → Out ℕ
+joinedOut c (got v) = ok v
+joinedOut c (bad e) = stop e c
+
+-- the parcels after p, of two words
+abbrev pub listed : ℕ → ℕ → ℕ → List ℕ
+listed p x y =
+    cond (ltb p 0x8000) []
+    (cond (ltb p 0xC000) (x / 65536 ∷ x % 65536 ∷ []) (x / 65536 ∷ x % 65536 ∷ y / 65536 ∷ y % 65536 ∷ []))
+
+abbrev pub operandsOut : Cpu → ℕ → Operands → Out (List ℕ)
+operandsOut c p o = cond (eqb (o .fault) 0) (ok (listed p (o .source) (o .destination))) (stop (o .fault % 2 ^ 32) c)
+
+abbrev pub textOut : Cpu → Fetched → Out Text
+textOut c f = cond (eqb (f .fault) 0) (ok (f .text)) (stop (f .fault % 2 ^ 32) c)

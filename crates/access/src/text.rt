@@ -1,0 +1,270 @@
+// The text of an instruction at PC: one to six parcels, each fetched and translated by itself.
+use crate::data::fetch_parcel;
+use bits::high_half;
+use bits::low_half;
+use isa::Text;
+use word::sums::plus;
+ghost use mathlib.Core.Path.{_≡_};
+ghost use Prim.Native.Nat.{_+_, _*_, _/_, _%_};
+ghost use Rattle.memory.specs.Answers.{answerOf};
+ghost use Rattle.program.specs.Access.{gave};
+ghost use Rattle.program.specs.Program.{interpret};
+ghost use Rattle.program.specs.Journal.{journaled, logging};
+ghost use Rattle.machine.specs.Status.{cpu};
+ghost use Rattle.isa.specs.Decode.{textOf, cpuPrefix};
+ghost use mathlib.Core.List.{[], _∷_};
+ghost use Rattle.access.specs.Text.{following, fetchParcels, fetchAfter, fetchPrefixed, fetchText};
+ghost use Rattle.access.specs.Code.{joinedOut, fetchTwo, listed, operandsOut, textOut};
+
+// The two words after a first parcel, as far as it calls for them, and the exception that stopped the fetch with 2^32
+// added; 0 is no exception.
+pub struct Operands {
+    pub fault: u64,
+    pub source: u32,
+    pub destination: u32,
+}
+
+// The parcels, or the exception.
+pub struct Fetched {
+    pub fault: u64,
+    pub text: Text,
+}
+
+// Two parcels as a word, the first one high. (q stands in the contract alone.)
+fn fetch_two(
+    m: &mut [u8],
+    places: &mut [u32; 201],
+    words: &mut [[u8; 4]; 200],
+    q: &[[u32; 4]; 16],
+    r: &[u32; 17],
+    a: u32,
+) -> u64
+    ensures { λ x. ⌜ gave (joinedOut (cpu (now (r .entry)) (now (q .entry))) (answerOf x)) (journaled (now (m .exit)) (now (places .exit)) (now (words .exit))) ≡ interpret logging (fetchTwo (cpu (now (r .entry)) (now (q .entry))) a) (journaled (now (m .entry)) (now (places .entry)) (now (words .entry))) ⌝ }
+{
+    let x = fetch_parcel(m, places, words, r, a);
+    if 0x1_0000_0000 <= x {
+        return x;
+    }
+    let y = fetch_parcel(m, places, words, r, plus(a, 2));
+    if 0x1_0000_0000 <= y {
+        return y;
+    }
+    x % 0x1_0000 * 0x1_0000 + y % 0x1_0000
+}
+
+// The parcels after p, which stand from a on.
+fn fetch_operands(
+    m: &mut [u8],
+    places: &mut [u32; 201],
+    words: &mut [[u8; 4]; 200],
+    q: &[[u32; 4]; 16],
+    r: &[u32; 17],
+    a: u32,
+    p: u16,
+) -> Operands
+    ensures { λ x. ⌜ gave (operandsOut (cpu (now (r .entry)) (now (q .entry))) p x) (journaled (now (m .exit)) (now (places .exit)) (now (words .exit))) ≡ interpret logging (fetchParcels (cpu (now (r .entry)) (now (q .entry))) a (following p)) (journaled (now (m .entry)) (now (places .entry)) (now (words .entry))) ⌝ }
+{
+    if p < 0x8000 {
+        return Operands {
+            fault: 0,
+            source: 0,
+            destination: 0,
+        };
+    }
+    let x = fetch_two(m, places, words, q, r, a);
+    if 0x1_0000_0000 <= x {
+        return Operands {
+            fault: x,
+            source: 0,
+            destination: 0,
+        };
+    }
+    let source = memory::answers::low32(x);
+    if p < 0xC000 {
+        return Operands {
+            fault: 0,
+            source,
+            destination: 0,
+        };
+    }
+    let y = fetch_two(m, places, words, q, r, plus(a, 4));
+    if 0x1_0000_0000 <= y {
+        return Operands {
+            fault: y,
+            source: 0,
+            destination: 0,
+        };
+    }
+    let destination = memory::answers::low32(y);
+    Operands {
+        fault: 0,
+        source,
+        destination,
+    }
+}
+
+// A parcel of an answer.
+fn parcel(x: u64) -> u16
+    ensures { λ r. ⌜ r ≡ x % 65536 ⌝ }
+{
+    (x % 65536) as u16
+}
+
+fn none() -> Text
+    ensures { λ r. ⌜ r ≡ textOf [] ⌝ }
+{
+    Text {
+        count: 0,
+        p0: 0,
+        p1: 0,
+        p2: 0,
+        p3: 0,
+        p4: 0,
+        p5: 0,
+    }
+}
+
+// The text of a first parcel and its operands.
+fn bare(p: u16, o: Operands) -> Text
+    ensures { λ r. ⌜ r ≡ textOf (p ∷ listed p (o .source) (o .destination)) ⌝ }
+{
+    let x = o.source;
+    let y = o.destination;
+    if p < 0x8000 {
+        return Text {
+            count: 1,
+            p0: p,
+            p1: 0,
+            p2: 0,
+            p3: 0,
+            p4: 0,
+            p5: 0,
+        };
+    }
+    if p < 0xC000 {
+        return Text {
+            count: 3,
+            p0: p,
+            p1: high_half(x),
+            p2: low_half(x),
+            p3: 0,
+            p4: 0,
+            p5: 0,
+        };
+    }
+    Text {
+        count: 5,
+        p0: p,
+        p1: high_half(x),
+        p2: low_half(x),
+        p3: high_half(y),
+        p4: low_half(y),
+        p5: 0,
+    }
+}
+
+// The same after a CPU prefix.
+fn prefixed(p: u16, o: Operands) -> Text
+    ensures { λ r. ⌜ r ≡ textOf (cpuPrefix ∷ p ∷ listed p (o .source) (o .destination)) ⌝ }
+{
+    let x = o.source;
+    let y = o.destination;
+    if p < 0x8000 {
+        return Text {
+            count: 2,
+            p0: 0x2C00,
+            p1: p,
+            p2: 0,
+            p3: 0,
+            p4: 0,
+            p5: 0,
+        };
+    }
+    if p < 0xC000 {
+        return Text {
+            count: 4,
+            p0: 0x2C00,
+            p1: p,
+            p2: high_half(x),
+            p3: low_half(x),
+            p4: 0,
+            p5: 0,
+        };
+    }
+    Text {
+        count: 6,
+        p0: 0x2C00,
+        p1: p,
+        p2: high_half(x),
+        p3: low_half(x),
+        p4: high_half(y),
+        p5: low_half(y),
+    }
+}
+
+// The instruction whose first parcel p stands at PC.
+fn fetch_after(
+    m: &mut [u8],
+    places: &mut [u32; 201],
+    words: &mut [[u8; 4]; 200],
+    q: &[[u32; 4]; 16],
+    r: &[u32; 17],
+    p: u16,
+) -> Fetched
+    ensures { λ x. ⌜ gave (textOut (cpu (now (r .entry)) (now (q .entry))) x) (journaled (now (m .exit)) (now (places .exit)) (now (words .exit))) ≡ interpret logging (fetchAfter (cpu (now (r .entry)) (now (q .entry))) p) (journaled (now (m .entry)) (now (places .entry)) (now (words .entry))) ⌝ }
+{
+    let o = fetch_operands(m, places, words, q, r, plus(r[5], 2), p);
+    Fetched {
+        fault: o.fault,
+        text: bare(p, o),
+    }
+}
+
+fn fetch_prefixed(
+    m: &mut [u8],
+    places: &mut [u32; 201],
+    words: &mut [[u8; 4]; 200],
+    q: &[[u32; 4]; 16],
+    r: &[u32; 17],
+) -> Fetched
+    ensures { λ x. ⌜ gave (textOut (cpu (now (r .entry)) (now (q .entry))) x) (journaled (now (m .exit)) (now (places .exit)) (now (words .exit))) ≡ interpret logging (fetchPrefixed (cpu (now (r .entry)) (now (q .entry)))) (journaled (now (m .entry)) (now (places .entry)) (now (words .entry))) ⌝ }
+{
+    let x = fetch_parcel(m, places, words, r, plus(r[5], 2));
+    if 0x1_0000_0000 <= x {
+        return Fetched {
+            fault: x,
+            text: none(),
+        };
+    }
+    let p = parcel(x);
+    let o = fetch_operands(m, places, words, q, r, plus(r[5], 4), p);
+    Fetched {
+        fault: o.fault,
+        text: prefixed(p, o),
+    }
+}
+
+// All parcels that the instruction at PC calls for.
+pub fn fetch_text(
+    m: &mut [u8],
+    places: &mut [u32; 201],
+    words: &mut [[u8; 4]; 200],
+    q: &[[u32; 4]; 16],
+    r: &[u32; 17],
+) -> Fetched
+    ensures { λ x. ⌜ gave (textOut (cpu (now (r .entry)) (now (q .entry))) x) (journaled (now (m .exit)) (now (places .exit)) (now (words .exit))) ≡ interpret logging (fetchText (cpu (now (r .entry)) (now (q .entry)))) (journaled (now (m .entry)) (now (places .entry)) (now (words .entry))) ⌝ }
+{
+    let x = fetch_parcel(m, places, words, r, r[5]);
+    if 0x1_0000_0000 <= x {
+        return Fetched {
+            fault: x,
+            text: none(),
+        };
+    }
+    let p = parcel(x);
+    if p == 0x2C00 {
+        fetch_prefixed(m, places, words, q, r)
+    } else {
+        fetch_after(m, places, words, q, r, p)
+    }
+}

@@ -1,0 +1,198 @@
+-- Every step and every attempt of a confined run keeps to the rules, in at most 79 and 75 accesses.
+-- Assumes nothing.
+use Prim.Native.Nat.{ℕ, _+_, _*_, _≤_}
+use mathlib.Core.Path.{_≡_, sym, _∙_}
+use mathlib.Core.Bool.{Bool, true, false, cond, not, _&&_, false≢true}
+use native.Mathlib.Omega.{arith}
+use lib.Dec.{T, eqb, lit<}
+use Rattle.bits.specs.Bits.{bitOf}
+use Rattle.word.specs.Sums.{plusOf}
+use Rattle.isa.specs.declared.Answer.{Answer}
+use Rattle.isa.specs.declared.Answer.the-variants.{Is, Illegal, Unimplemented, Trap, Refused}
+use Rattle.isa.specs.Decode.{decodeOf}
+use Rattle.program.specs.Program.{Program, ret, after}
+use Rattle.machine.specs.Registers.{config, psw, traceDue, timer1Due, timer2Due, nmiTaken}
+use Rattle.machine.specs.Registers as place
+use Rattle.machine.specs.Status.{Cpu, reg, with, isUser}
+use Rattle.access.specs.Parts.{Out, ok, stop, resets}
+use Rattle.exec.specs.Frames.{exceptionSequence, reset}
+use Rattle.exec.specs.Execute.{normal}
+use Rattle.step.specs.Events.{Due, none, interrupt, timer1, timer2, trace, dueOf, looked, take, traceException}
+use Rattle.step.specs.Timers.{counts1, counts2, ticked, counted}
+use Rattle.step.specs.Step.{Met, meets, vectored, met, fetchInstruction, Acted, finished, sequenced, act, attempt, tracesAt, traceFalls, Stepped, stepped, settled, eventStep, exceptionStep, finish, instructionStep, stepFor, step, timed}
+use Rattle.run.specs.Run.{Tried, tried, fetched, isKcall, tryActed, confinedAttempt}
+use Rattle.bounds.proofs.Within.{Within, within-more, within-after, within-weaker}
+use Rattle.bounds.proofs.Rules.{plainly, Rules, Answers, Ends, Part, bind, more, gives, either}
+use Rattle.bounds.proofs.Accesses.{plus-value}
+use Rattle.bounds.proofs.Texts.{fetch-text}
+use Rattle.bounds.proofs.Frames.{interrupt-part, exception-part, unimplemented-part, reset-holds}
+use Rattle.bounds.proofs.Executes.{NormalFits, execute-part}
+use Rattle.bounds.proofs.Constants.{AnswerFits, decode-fits}
+
+-- ---- results
+
+abbrev MetFits : Met → Type 0
+MetFits (meets i) = NormalFits (normal i)
+MetFits (vectored v) = Unit
+
+abbrev ActedHolds : Rules → Acted → Type 0
+ActedHolds k (finished t c) = k .Holds c
+ActedHolds k (sequenced c) = k .Holds c
+
+abbrev pub SteppedHolds : Rules → Stepped → Type 0
+SteppedHolds k s = k .Holds (s .cpu)
+
+abbrev TriedHolds : Rules → Tried → Type 0
+TriedHolds k (tried (finished t c)) = k .Holds c
+TriedHolds k (tried (sequenced c)) = ⊥
+TriedHolds k (fetched code) = Unit
+
+-- every machine that an attempt of a confined run leaves is in H, and no event sequence was made
+abbrev pub Leaves : (Cpu → Type 0) → Out Tried → Type 0
+Leaves H (ok (tried (finished t c))) = H c
+Leaves H (ok (tried (sequenced c))) = ⊥
+Leaves H (ok (fetched code)) = Unit
+Leaves H (stop e c) = H c
+
+module _ (k : Rules) where
+  -- ---- what is due, and the timers
+
+  pub looked-holds : (level : ℕ) (c : Cpu) → k .Holds c → k .Holds (looked level c)
+  looked-holds level c h = go (eqb level 0)
+    where
+      go : (b : Bool) → k .Holds (cond b c (with c nmiTaken 0))
+      go true = h
+      go false = k .plain c nmiTaken 0 tt h (λ _. lit< tt)
+
+  pub trace-holds : (b : Bool) (c : Cpu) → k .Holds c → k .Holds (traceFalls b c)
+  trace-holds true c h = k .plain c traceDue 1 tt h (λ _. lit< tt)
+  trace-holds false c h = h
+
+  ticked-holds : (c : Cpu) (n due : ℕ) (on : Bool) → T (plainly n (plusOf (reg c n) 1)) → T (plainly due 1) → k .Holds c → k .Holds (ticked c n due on)
+  ticked-holds c n due on t u h = go (eqb (plusOf (reg c n) 1) 0 && on)
+    where
+      more-by-one : k .Holds (with c n (plusOf (reg c n) 1))
+      more-by-one = k .plain c n _ t h (plus-value k (reg c n) 1)
+
+      go : (b : Bool) → k .Holds (cond b (with (with c n (plusOf (reg c n) 1)) due 1) (with c n (plusOf (reg c n) 1)))
+      go true = k .plain _ due 1 u more-by-one (λ _. lit< tt)
+      go false = more-by-one
+
+  pub counted-holds : (config : ℕ) (kernel completed : Bool) (c : Cpu) → k .Holds c → k .Holds (counted config kernel completed c)
+  unfolding counted
+  counted-holds config kernel completed c h = second (counts2 config kernel completed) _ (first (counts1 config kernel completed))
+    where
+      first : (b : Bool) → k .Holds (cond b (ticked c place.timer1 timer1Due (bitOf config 24)) c)
+      first true = ticked-holds c place.timer1 timer1Due (bitOf config 24) tt tt h
+      first false = h
+
+      second : (b : Bool) (d : Cpu) → k .Holds d → k .Holds (cond b (ticked d place.timer2 timer2Due (bitOf config 31)) d)
+      second true d g = ticked-holds d place.timer2 timer2Due (bitOf config 31) tt tt g
+      second false d g = g
+
+  pub timed-holds : (c : Cpu) (s : Stepped) → SteppedHolds k s → k .Holds (timed c s)
+  timed-holds c s h = counted-holds (reg c config) (not (isUser (c .bank))) (s .completed) (s .cpu) h
+
+  -- ---- fetch and instruction
+
+  fetch-part : (c : Cpu) → k .Holds c → Part k MetFits 6 (fetchInstruction c)
+  unfolding fetchInstruction
+  fetch-part c h = bind {b = 0} (fetch-text k c h) λ t f. record { within = go (decodeOf t) (decode-fits t f) }
+    where
+      go : (a : Answer) → AnswerFits a → Within (k .Asks) (Answers k) (Ends k MetFits) 0 (ret (met c a))
+      go (Is i) f = f
+      go Illegal f = h
+      go Unimplemented f = tt
+      go Trap f = tt
+      go (Refused n) f = h
+
+  act-part : (c : Cpu) (m : Met) → k .Free → k .Holds c → MetFits m → Part k (ActedHolds k) 69 (act c m)
+  unfolding act
+  act-part c (meets i) free h f = bind (execute-part k c i h f (λ _. free)) λ d g. gives {n = 0} g
+  act-part c (vectored v) free h f = more 69 (omega arith) (bind (unimplemented-part k free c v h) λ d g. gives {n = 0} g)
+
+  attempt-part : (c : Cpu) → k .Free → k .Holds c → Part k (ActedHolds k) 75 (attempt c)
+  unfolding attempt
+  attempt-part c free h = bind (fetch-part c h) λ m f. act-part c m free h f
+
+  try-part : (c : Cpu) (m : Met) → k .Holds c → MetFits m → Part k (TriedHolds k) 69 (tryActed c m)
+  unfolding tryActed
+  try-part c (meets i) h f =
+      either (isKcall (normal i)) (λ _. gives tt) (λ e. bind (execute-part k c i h f (λ g. absurd (apart e g))) λ d g. gives {n = 0} g)
+    where
+      apart : isKcall (normal i) ≡ false → isKcall (normal i) ≡ true → ⊥
+      apart e g = false≢true (sym e ∙ g)
+  try-part c (vectored v) h f = gives tt
+
+  pub confined-part : (c : Cpu) → k .Holds c → Within (k .Asks) (Answers k) (Leaves (k .Holds)) 75 (confinedAttempt c)
+  unfolding confinedAttempt
+  confined-part c h = within-weaker (k .Asks) (Answers k) (Ends k (TriedHolds k)) (Leaves (k .Holds)) 75 (confinedAttempt c) leaves (tries .within)
+    where
+      tries : Part k (TriedHolds k) 75 (confinedAttempt c)
+      tries = bind (fetch-part c h) λ m f. try-part c m h f
+
+      leaves : (o : Out Tried) → Ends k (TriedHolds k) o → Leaves (k .Holds) o
+      leaves (ok (tried (finished t d))) g = g
+      leaves (ok (tried (sequenced d))) g = g
+      leaves (ok (fetched code)) g = tt
+      leaves (stop e d) g = g
+
+  -- ---- the step
+
+  abbrev Stepping : ℕ → Program Stepped → Type 0
+  Stepping n p = Within (k .Asks) (Answers k) (SteppedHolds k) n p
+
+  module _ (free : k .Free) where
+    settled-holds : (o : Out Cpu) → Ends k (k .Holds) o → k .Holds (settled o)
+    settled-holds (ok c) h = h
+    settled-holds (stop e c) h = reset-holds k free c h
+
+    settles : (n : ℕ) (p : Program (Out Cpu)) → n ≤ 4 → Part k (k .Holds) n p → Stepping 4 (after p (λ o. ret (stepped (settled o) false)))
+    settles n p l t =
+        within-after (k .Asks) (Answers k) (SteppedHolds k) (Ends k (k .Holds)) n 0 4 p (λ o. ret (stepped (settled o) false)) (omega arith) (t .within) settled-holds
+
+    event-part : (c : Cpu) (d : Due) → k .Holds c → Stepping 4 (eventStep c d)
+    unfolding eventStep take
+    event-part c none h = settles 3 _ (omega arith) (interrupt-part k free c 0 h)
+    event-part c (interrupt n) h = settles 3 _ (omega arith) (interrupt-part k free _ (16 + 4 * n) (go (eqb n 0)))
+      where
+        go : (b : Bool) → k .Holds (cond b (with c nmiTaken 1) c)
+        go true = k .plain c nmiTaken 1 tt h (λ _. lit< tt)
+        go false = h
+    event-part c timer1 h = settles 3 _ (omega arith) (interrupt-part k free _ 44 (k .plain c timer1Due 0 tt h (λ _. lit< tt)))
+    event-part c timer2 h = settles 3 _ (omega arith) (interrupt-part k free _ 48 (k .plain c timer2Due 0 tt h (λ _. lit< tt)))
+    event-part c trace h = settles 4 _ (omega arith) (exception-part k free _ traceException (k .plain c traceDue 0 tt h (λ _. lit< tt)))
+
+    exception-step : (c : Cpu) (e : ℕ) → k .Holds c → Stepping 4 (exceptionStep c e)
+    unfolding exceptionStep
+    exception-step c e h = go (eqb e resets)
+      where
+        go : (b : Bool) → Stepping 4 (cond b (ret (stepped (reset c) false)) (after (exceptionSequence c e) (λ o. ret (stepped (settled o) false))))
+        go true = reset-holds k free c h
+        go false = settles 4 (exceptionSequence c e) (omega arith) (exception-part k free c e h)
+
+    finish-part : (p : ℕ) (o : Out Acted) → Ends k (ActedHolds k) o → Stepping 4 (finish p o)
+    unfolding finish
+    finish-part p (ok (finished t c)) h = trace-holds (tracesAt p t) c h
+    finish-part p (ok (sequenced c)) h = trace-holds (bitOf p 7) c h
+    finish-part p (stop e c) h = exception-step c e h
+
+    instruction-part : (c : Cpu) → k .Holds c → Stepping 79 (instructionStep c)
+    unfolding instructionStep
+    instruction-part c h =
+        within-after (k .Asks) (Answers k) (SteppedHolds k) (Ends k (ActedHolds k)) 75 4 79 (attempt c) (finish (reg c psw)) (omega arith)
+        (attempt-part c free h .within) (finish-part (reg c psw))
+
+    event : (d : Due) (c : Cpu) → k .Holds c → Stepping 79 (eventStep c d)
+    event d c h = within-more (k .Asks) (Answers k) (SteppedHolds k) 4 79 (eventStep c d) (omega arith) (event-part c d h)
+
+    due-part : (d : Due) (c : Cpu) → k .Holds c → Stepping 79 (stepFor d c)
+    due-part none c h = instruction-part c h
+    due-part (interrupt n) c h = event (interrupt n) c h
+    due-part timer1 c h = event timer1 c h
+    due-part timer2 c h = event timer2 c h
+    due-part trace c h = event trace c h
+
+    pub step-part : (level : ℕ) (c : Cpu) → k .Holds c → Stepping 79 (step level c)
+    unfolding step
+    step-part level c h = due-part (dueOf level (looked level c .bank)) (looked level c) (looked-holds level c h)

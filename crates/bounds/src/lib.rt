@@ -1,0 +1,1 @@
+// No code: what every program of the instruction set asks for and leaves.

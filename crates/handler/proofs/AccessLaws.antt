@@ -1,0 +1,244 @@
+-- The ways out of an access: misaligned, untranslated, and after its walk.
+-- Assumes nothing.
+use Prim.Native.Nat.{ℕ, _+_, _/_, _*_, _%_, _^_, _<_, _≤_}
+use mathlib.Core.Path.{_≡_, refl, sym, ap, _∙_}
+use mathlib.Core.Bool.{Bool, true, false, cond}
+use mathlib.Core.List.{List, []}
+use native.Mathlib.Nat.{mod-eq-of-lt}
+use native.Mathlib.Omega.{arith}
+use lib.ListN.{length}
+use lib.Dec.{eqb}
+use borrow.Author.Tests.{le-leb, lt-leb, eq-eqb, ne-eqb}
+use Rattle.word.specs.declared.Width.{Width}
+use Rattle.word.specs.declared.Width.the-variants.{Byte, Half, Word}
+use Rattle.word.specs.Widths.{bytesOf}
+use Rattle.memory.specs.Answers.{Answer, got, bad, busFault}
+use Rattle.memory.specs.Bytes.{Memory, load, holds, storeAnswer, storeMemory, Effect, done, storeOf}
+use Rattle.mmu.specs.declared.Kind.{Kind}
+use Rattle.mmu.specs.declared.Kind.the-variants.{Fetch, Read, Write}
+use Rattle.mmu.specs.declared.Walk.{Walk}
+use Rattle.mmu.specs.declared.Walk.the-variants.{Fault, Direct, Paged}
+use Rattle.mmu.specs.declared.Regime.{Regime}
+use Rattle.mmu.specs.Walk.{walk, route, recorded}
+use Rattle.program.specs.Access.{Access, fetch, read, write, probe, regimeOf, kindOf, addressOf, aligned, alignmentFault, Gave, gave, touch, follow, access}
+use Rattle.program.specs.Journal.{Journal, journal, note, touchNote, entryNote, walkNote, followNote, accessNote, Journaled, journaled, logging}
+use Rattle.handler.specs.Followed.{followed, regimeFor, fitsWidth, onlyMemory}
+
+-- ---- any access
+
+aligned-is : (q : Access) (t : Journaled) → aligned q ≡ true → followed q (route (regimeOf q) (kindOf q) (addressOf q) (t .memory)) t ≡ logging q t
+unfolding followed logging access accessNote
+aligned-is q t h = rw h refl
+
+odd-is : (q : Access) (t : Journaled) → aligned q ≡ false → gave (bad alignmentFault) t ≡ logging q t
+unfolding logging access accessNote
+odd-is q t h = rw h refl
+
+-- a translated access is followed by its walk, an untranslated one goes to its address
+module _ (q : Access) (stb a : ℕ) (user : Bool) (k : Kind) (t : Journaled) (ek : kindOf q ≡ k) (ea : addressOf q ≡ a) (h : aligned q ≡ true) where
+  virtual-is : regimeOf q ≡ regimeFor stb user true → followed q (walk user stb k a (t .memory)) t ≡ logging q t
+  unfolding route
+  virtual-is er = ap (λ (w : Walk). followed q w t) (sym (rw (er, ek, ea) refl)) ∙ aligned-is q t h
+
+  physical-is : regimeOf q ≡ regimeFor stb user false → followed q (Direct a) t ≡ logging q t
+  unfolding route
+  physical-is er = ap (λ (w : Walk). followed q w t) (sym (rw (er, ea) refl)) ∙ aligned-is q t h
+
+fits-is : (w : Width) (a : ℕ) → a < 2 ^ 32 → eqb (a % 2 ^ 32 % bytesOf w) 0 ≡ fitsWidth w a
+fits-is Byte a h = eq-eqb (a % 2 ^ 32 % 1) 0 (omega arith)
+fits-is Half a h = ap (λ (n : ℕ). eqb (n % 2) 0) (mod-eq-of-lt {n = a} {m = 2 ^ 32} h)
+fits-is Word a h = ap (λ (n : ℕ). eqb (n % 4) 0) (mod-eq-of-lt {n = a} {m = 2 ^ 32} h)
+
+word-is : (a : ℕ) → a < 2 ^ 32 → a % 2 ^ 32 ≡ a
+word-is a h = mod-eq-of-lt {n = a} {m = 2 ^ 32} h
+
+-- ---- reads
+
+module _ (r : Regime) (w : Width) (x : ℕ) (m : Memory) (a : List ℕ) (o : List (List ℕ)) (y : Walk) where
+  pub read-fault : (k : Walk) (c : ℕ) (z : Answer) → k ≡ y → k ≡ Fault c → z ≡ bad c → gave z (journaled m a o) ≡ followed (read r w x) y (journaled m a o)
+  unfolding followed follow followNote
+  read-fault k c z e f g = rw (sym e ∙ f, g) refl
+
+  pub read-direct : (k : Walk) (pa : ℕ) (z : Answer) → k ≡ y → k ≡ Direct pa → z ≡ load (bytesOf w) m pa → gave z (journaled m a o) ≡ followed (read r w x) y (journaled m a o)
+  unfolding followed follow followNote touch touchNote
+  read-direct k pa z e f g = rw (sym e ∙ f, g) refl
+
+  pub read-paged : (k : Walk) (p pa : ℕ) (z : Answer) (n : Memory) (b : List ℕ) (u : List (List ℕ)) → k ≡ y → k ≡ Paged p pa
+      → journaled n b u ≡ record { memory = recorded Read p m; log = entryNote Read p m (journal a o) } → z ≡ load (bytesOf w) n pa
+      → gave z (journaled n b u) ≡ followed (read r w x) y (journaled m a o)
+  unfolding followed follow followNote touch touchNote walkNote
+  read-paged k p pa z n b u e f d g =
+      rw (sym e ∙ f) (ap (λ (v : Answer). gave v (journaled n b u)) g ∙ ap (λ (t : Journaled). gave (load (bytesOf w) (t .memory) pa) t) d)
+
+module _ (stb : ℕ) (user translated : Bool) (w : Width) (x : ℕ) (m : Memory) (a : List ℕ) (o : List (List ℕ)) where
+  pub read-odd : (b : Bool) (z : Answer) → x < 2 ^ 32 → b ≡ fitsWidth w x → b ≡ false → z ≡ bad 4 → gave z (journaled m a o) ≡ logging (read (regimeFor stb user translated) w x) (journaled m a o)
+  read-odd b z h e f g = ap (λ (v : Answer). gave v (journaled m a o)) g ∙ odd-is (read (regimeFor stb user translated) w x) (journaled m a o) (fits-is w x h ∙ sym e ∙ f)
+
+  pub read-virtual : (b : Bool) (g : Gave Journaled Answer) → x < 2 ^ 32 → b ≡ fitsWidth w x → b ≡ true → translated ≡ true
+      → g ≡ followed (read (regimeFor stb user true) w x) (walk user stb Read x m) (journaled m a o) → g ≡ logging (read (regimeFor stb user translated) w x) (journaled m a o)
+  read-virtual b g h e f v i =
+      i ∙ virtual-is (read (regimeFor stb user true) w x) stb x user Read (journaled m a o) refl (word-is x h) (fits-is w x h ∙ sym e ∙ f) refl
+      ∙ ap (λ (c : Bool). logging (read (regimeFor stb user c) w x) (journaled m a o)) (sym v)
+
+  pub read-physical : (b : Bool) (z : Answer) → x < 2 ^ 32 → b ≡ fitsWidth w x → b ≡ true → translated ≡ false → z ≡ load (bytesOf w) m x
+      → gave z (journaled m a o) ≡ logging (read (regimeFor stb user translated) w x) (journaled m a o)
+  read-physical b z h e f v g =
+      read-direct (regimeFor stb user false) w x m a o (Direct x) (Direct x) x z refl refl g
+      ∙ physical-is (read (regimeFor stb user false) w x) stb x user Read (journaled m a o) refl (word-is x h) (fits-is w x h ∙ sym e ∙ f) refl
+      ∙ ap (λ (c : Bool). logging (read (regimeFor stb user c) w x) (journaled m a o)) (sym v)
+
+-- ---- writes
+
+pub store-held : (w : Width) (pa v : ℕ) (m : Memory) (a : List ℕ) (o : List (List ℕ)) (k : ℕ) (z : Answer) (n : Memory) (b : List ℕ) (u : List (List ℕ))
+    → k ≡ bytesOf w → pa + k ≤ length m → journal b u ≡ note (pa / 4 * 4) m (journal a o) → done z n ≡ storeOf (bytesOf w) m pa v
+    → gave z (journaled n b u) ≡ followed (write (regimeFor 0 true true) w 0 v) (Direct pa) (journaled m a o)
+unfolding followed follow followNote touch touchNote storeOf
+store-held w pa v m a o k z n b u ek h j d =
+    let f : holds m pa (bytesOf w) ≡ true = le-leb (pa + bytesOf w) (length m) (rw (sym ek) h) in
+    let e : z ≡ storeAnswer (bytesOf w) m pa = ap (λ (x : Effect). x .answer) d in
+    let g : n ≡ storeMemory (bytesOf w) m pa v = ap (λ (x : Effect). x .memory) d in
+    rw (f, e, g, j) refl
+
+pub store-past : (w : Width) (pa v : ℕ) (m : Memory) (a : List ℕ) (o : List (List ℕ)) (k : ℕ) (z : Answer) → k ≡ bytesOf w → length m < pa + k → z ≡ bad 10
+    → gave z (journaled m a o) ≡ followed (write (regimeFor 0 true true) w 0 v) (Direct pa) (journaled m a o)
+unfolding followed follow followNote touch touchNote storeAnswer storeMemory
+store-past w pa v m a o k z ek h g = let f : holds m pa (bytesOf w) ≡ false = lt-leb (pa + bytesOf w) (length m) (rw (sym ek) h) in rw (f, g) refl
+
+-- where a store goes decides alone
+store-any : (r : Regime) (w : Width) (x v pa : ℕ) (t : Journaled) → followed (write (regimeFor 0 true true) w 0 v) (Direct pa) t ≡ followed (write r w x v) (Direct pa) t
+unfolding followed follow followNote touch touchNote
+store-any r w x v pa t = refl
+
+module _ (r : Regime) (w : Width) (x v : ℕ) (m : Memory) (a : List ℕ) (o : List (List ℕ)) (y : Walk) where
+  pub write-fault : (k : Walk) (c : ℕ) (z : Answer) → k ≡ y → k ≡ Fault c → z ≡ bad c → gave z (journaled m a o) ≡ followed (write r w x v) y (journaled m a o)
+  unfolding followed follow followNote
+  write-fault k c z e f g = rw (sym e ∙ f, g) refl
+
+  pub write-direct : (k : Walk) (pa : ℕ) (g : Gave Journaled Answer) → k ≡ y → k ≡ Direct pa → g ≡ followed (write (regimeFor 0 true true) w 0 v) (Direct pa) (journaled m a o)
+      → g ≡ followed (write r w x v) y (journaled m a o)
+  write-direct k pa g e f i = i ∙ store-any r w x v pa (journaled m a o) ∙ ap (λ (z : Walk). followed (write r w x v) z (journaled m a o)) (sym f ∙ e)
+
+  pub write-paged : (k : Walk) (p pa : ℕ) (g : Gave Journaled Answer) (n : Memory) (b : List ℕ) (u : List (List ℕ)) → k ≡ y → k ≡ Paged p pa
+      → journaled n b u ≡ record { memory = recorded Write p m; log = entryNote Write p m (journal a o) }
+      → g ≡ followed (write (regimeFor 0 true true) w 0 v) (Direct pa) (journaled n b u) → g ≡ followed (write r w x v) y (journaled m a o)
+  unfolding followed follow followNote touch touchNote walkNote
+  write-paged k p pa g n b u e f d i =
+      i ∙ ap (λ (t : Journaled). followed (write r w x v) (Direct pa) t) d
+      ∙ ap (λ (z : Walk). followed (write r w x v) z (journaled m a o)) (sym f ∙ e)
+
+module _ (stb : ℕ) (user translated : Bool) (w : Width) (x v : ℕ) (m : Memory) (a : List ℕ) (o : List (List ℕ)) where
+  pub write-odd : (b : Bool) (z : Answer) → x < 2 ^ 32 → b ≡ fitsWidth w x → b ≡ false → z ≡ bad 4 → gave z (journaled m a o) ≡ logging (write (regimeFor stb user translated) w x v) (journaled m a o)
+  write-odd b z h e f g = ap (λ (y : Answer). gave y (journaled m a o)) g ∙ odd-is (write (regimeFor stb user translated) w x v) (journaled m a o) (fits-is w x h ∙ sym e ∙ f)
+
+  pub write-virtual : (b : Bool) (g : Gave Journaled Answer) → x < 2 ^ 32 → b ≡ fitsWidth w x → b ≡ true → translated ≡ true
+      → g ≡ followed (write (regimeFor stb user true) w x v) (walk user stb Write x m) (journaled m a o) → g ≡ logging (write (regimeFor stb user translated) w x v) (journaled m a o)
+  write-virtual b g h e f t i =
+      i ∙ virtual-is (write (regimeFor stb user true) w x v) stb x user Write (journaled m a o) refl (word-is x h) (fits-is w x h ∙ sym e ∙ f) refl
+      ∙ ap (λ (c : Bool). logging (write (regimeFor stb user c) w x v) (journaled m a o)) (sym t)
+
+  pub write-physical : (b : Bool) (g : Gave Journaled Answer) → x < 2 ^ 32 → b ≡ fitsWidth w x → b ≡ true → translated ≡ false
+      → g ≡ followed (write (regimeFor 0 true true) w 0 v) (Direct x) (journaled m a o) → g ≡ logging (write (regimeFor stb user translated) w x v) (journaled m a o)
+  write-physical b g h e f t i =
+      i ∙ store-any (regimeFor stb user false) w x v x (journaled m a o)
+      ∙ physical-is (write (regimeFor stb user false) w x v) stb x user Write (journaled m a o) refl (word-is x h) (fits-is w x h ∙ sym e ∙ f) refl
+      ∙ ap (λ (c : Bool). logging (write (regimeFor stb user c) w x v) (journaled m a o)) (sym t)
+
+-- ---- text
+
+module _ (r : Regime) (x : ℕ) (m : Memory) (a : List ℕ) (o : List (List ℕ)) (y : Walk) where
+  pub fetch-fault : (k : Walk) (c : ℕ) (z : Answer) → k ≡ y → k ≡ Fault c → z ≡ bad c → gave z (journaled m a o) ≡ followed (fetch r x) y (journaled m a o)
+  unfolding followed follow followNote
+  fetch-fault k c z e f g = rw (sym e ∙ f, g) refl
+
+  pub fetch-direct : (k : Walk) (pa : ℕ) (z : Answer) → k ≡ y → k ≡ Direct pa → z ≡ load 2 m pa → gave z (journaled m a o) ≡ followed (fetch r x) y (journaled m a o)
+  unfolding followed follow followNote touch touchNote
+  fetch-direct k pa z e f g = rw (sym e ∙ f, g) refl
+
+  pub fetch-paged : (k : Walk) (p pa : ℕ) (z : Answer) (n : Memory) (b : List ℕ) (u : List (List ℕ)) → k ≡ y → k ≡ Paged p pa
+      → journaled n b u ≡ record { memory = recorded Fetch p m; log = entryNote Fetch p m (journal a o) } → z ≡ load 2 n pa
+      → gave z (journaled n b u) ≡ followed (fetch r x) y (journaled m a o)
+  unfolding followed follow followNote touch touchNote walkNote
+  fetch-paged k p pa z n b u e f d g =
+      rw (sym e ∙ f) (ap (λ (v : Answer). gave v (journaled n b u)) g ∙ ap (λ (t : Journaled). gave (load 2 (t .memory) pa) t) d)
+
+text-is : (r : Regime) (x : ℕ) → x < 2 ^ 32 → addressOf (fetch r x) ≡ x / 2 * 2
+text-is r x h = ap (λ (n : ℕ). n / 2 * 2) (word-is x h)
+
+even : (r : Regime) (x : ℕ) → aligned (fetch r x) ≡ true
+even r x = eq-eqb (x % 2 ^ 32 / 2 * 2 % 2) 0 (omega arith)
+
+module _ (stb : ℕ) (user translated : Bool) (x : ℕ) (m : Memory) (a : List ℕ) (o : List (List ℕ)) where
+  pub fetch-virtual : (g : Gave Journaled Answer) → x < 2 ^ 32 → translated ≡ true
+      → g ≡ followed (fetch (regimeFor stb user true) x) (walk user stb Fetch (x / 2 * 2) m) (journaled m a o) → g ≡ logging (fetch (regimeFor stb user translated) x) (journaled m a o)
+  fetch-virtual g h v i =
+      i ∙ virtual-is (fetch (regimeFor stb user true) x) stb (x / 2 * 2) user Fetch (journaled m a o) refl (text-is (regimeFor stb user true) x h) (even (regimeFor stb user true) x) refl
+      ∙ ap (λ (c : Bool). logging (fetch (regimeFor stb user c) x) (journaled m a o)) (sym v)
+
+  pub fetch-physical : (z : Answer) → x < 2 ^ 32 → translated ≡ false → z ≡ load 2 m (x / 2 * 2) → gave z (journaled m a o) ≡ logging (fetch (regimeFor stb user translated) x) (journaled m a o)
+  fetch-physical z h v g =
+      fetch-direct (regimeFor stb user false) x m a o (Direct (x / 2 * 2)) (Direct (x / 2 * 2)) (x / 2 * 2) z refl refl g
+      ∙ physical-is (fetch (regimeFor stb user false) x) stb (x / 2 * 2) user Fetch (journaled m a o) refl (text-is (regimeFor stb user false) x h) (even (regimeFor stb user false) x) refl
+      ∙ ap (λ (c : Bool). logging (fetch (regimeFor stb user c) x) (journaled m a o)) (sym v)
+
+-- ---- checks of stores
+
+module _ (stb : ℕ) (user : Bool) (x : ℕ) (m : Memory) where
+  checked : addressOf (probe (regimeFor stb user true) x) ≡ x → followed (probe (regimeFor stb user true) x) (walk user stb Write x m) (onlyMemory m) ≡ logging (probe (regimeFor stb user true) x) (onlyMemory m)
+  checked e = virtual-is (probe (regimeFor stb user true) x) stb x user Write (onlyMemory m) refl e (eq-eqb (x % 2 ^ 32 % 1) 0 (omega arith)) refl
+
+  pub probe-write : (t : Bool) (k : Walk) (c : ℕ) (z : Answer) → x < 2 ^ 32 → t ≡ true → k ≡ walk user stb Write x m → k ≡ Fault c → c ≡ 9 → z ≡ bad 8
+      → gave z (onlyMemory m) ≡ logging (probe (regimeFor stb user t) x) (onlyMemory m)
+  unfolding followed follow followNote
+  probe-write t k c z h v e f n g =
+      rw v (sym (rw (sym e ∙ f, n, g) refl) ∙ checked (word-is x h))
+
+  pub probe-fault : (t : Bool) (k : Walk) (c : ℕ) (z : Answer) → x < 2 ^ 32 → t ≡ true → k ≡ walk user stb Write x m → k ≡ Fault c → (c ≡ 9 → ⊥) → z ≡ bad c
+      → gave z (onlyMemory m) ≡ logging (probe (regimeFor stb user t) x) (onlyMemory m)
+  unfolding followed follow followNote
+  probe-fault t k c z h v e f n g = rw v (sym (rw (sym e ∙ f, ne-eqb _ _ n, g) refl) ∙ checked (word-is x h))
+
+  pub probe-direct : (t : Bool) (k : Walk) (pa : ℕ) (z : Answer) → x < 2 ^ 32 → t ≡ true → k ≡ walk user stb Write x m → k ≡ Direct pa → z ≡ got 0
+      → gave z (onlyMemory m) ≡ logging (probe (regimeFor stb user t) x) (onlyMemory m)
+  unfolding followed follow followNote touch touchNote
+  probe-direct t k pa z h v e f g = rw v (sym (rw (sym e ∙ f, g) refl) ∙ checked (word-is x h))
+
+  pub probe-paged : (t : Bool) (k : Walk) (p pa : ℕ) (z : Answer) → x < 2 ^ 32 → t ≡ true → k ≡ walk user stb Write x m → k ≡ Paged p pa → z ≡ got 0
+      → gave z (onlyMemory m) ≡ logging (probe (regimeFor stb user t) x) (onlyMemory m)
+  unfolding followed follow followNote touch touchNote walkNote
+  probe-paged t k p pa z h v e f g = rw v (sym (rw (sym e ∙ f, g) refl) ∙ checked (word-is x h))
+
+  pub probe-physical : (t : Bool) (z : Answer) → x < 2 ^ 32 → t ≡ false → z ≡ got 0 → gave z (onlyMemory m) ≡ logging (probe (regimeFor stb user t) x) (onlyMemory m)
+  unfolding followed follow followNote touch touchNote
+  probe-physical t z h v g =
+      rw (v, g) (physical-is (probe (regimeFor stb user false) x) stb x user Write (onlyMemory m) refl (word-is x h) (eq-eqb (x % 2 ^ 32 % 1) 0 (omega arith)) refl)
+
+-- ---- alignment by the width's case
+
+pub fits-half : (w : Width) (a : ℕ) → w ≡ Half → eqb (a % 2) 0 ≡ fitsWidth w a
+fits-half w a e = ap (λ (v : Width). fitsWidth v a) (sym e)
+
+pub fits-word : (w : Width) (a : ℕ) → w ≡ Word → eqb (a % 4) 0 ≡ fitsWidth w a
+fits-word w a e = ap (λ (v : Width). fitsWidth v a) (sym e)
+
+-- ---- a check of stores notes nothing, so it may be asked without the journal
+
+probe-note : (r : Regime) (x : ℕ) (m : Memory) (j : Journal) → accessNote (probe r x) m j ≡ j
+unfolding accessNote followNote touchNote walkNote
+probe-note r x m j = both (aligned (probe r x)) (route (regimeOf (probe r x)) (kindOf (probe r x)) (addressOf (probe r x)) m)
+  where
+    walked : (w : Walk) → followNote (probe r x) m w j ≡ j
+    walked (Fault c) = refl
+    walked (Direct pa) = refl
+    walked (Paged p pa) = refl
+
+    both : (b : Bool) (w : Walk) → cond b (followNote (probe r x) m w j) j ≡ j
+    both true w = walked w
+    both false w = refl
+
+pub probe-noted : (r : Regime) (x : ℕ) (m : Memory) (j : Journal) (z : Answer) → gave z (onlyMemory m) ≡ logging (probe r x) (onlyMemory m)
+    → gave z (record { memory = m; log = j }) ≡ logging (probe r x) (record { memory = m; log = j })
+unfolding logging
+probe-noted r x m j z e =
+    let f : z ≡ access (probe r x) m .out = ap (λ (g : Gave Journaled Answer). g .out) e in
+    let n : m ≡ access (probe r x) m .world = ap (λ (g : Gave Journaled Answer). g .world .memory) e in
+    rw (← f, ← n, probe-note r x m j) refl

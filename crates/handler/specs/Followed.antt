@@ -1,0 +1,31 @@
+-- An access after its walk, on memory and journal together.
+-- Assumes nothing.
+use mathlib.Core.Bool.{Bool, true}
+use mathlib.Core.List.{List, []}
+use Prim.Native.Nat.{ℕ, _%_}
+use lib.Dec.{eqb}
+use Rattle.word.specs.declared.Width.{Width}
+use Rattle.word.specs.declared.Width.the-variants.{Byte, Half, Word}
+use Rattle.memory.specs.Bytes.{Memory}
+use Rattle.memory.specs.Answers.{Answer}
+use Rattle.mmu.specs.declared.Walk.{Walk}
+use Rattle.mmu.specs.declared.Regime.{Regime}
+use Rattle.program.specs.Access.{Access, Gave, gave, follow}
+use Rattle.program.specs.Journal.{followNote, Journaled, journaled}
+
+unfoldable pub followed : Access → Walk → Journaled → Gave Journaled Answer
+followed q w t =
+    gave (follow q (t .memory) w .out) (record { memory = follow q (t .memory) w .world; log = followNote q (t .memory) w (t .log) })
+
+-- a regime by its numbers
+abbrev pub regimeFor : ℕ → Bool → Bool → Regime
+regimeFor stb user translated = record { stb = stb; user = user; translated = translated }
+
+-- an address is aligned to a width
+abbrev pub fitsWidth : Width → ℕ → Bool
+fitsWidth Byte a = true
+fitsWidth Half a = eqb (a % 2) 0
+fitsWidth Word a = eqb (a % 4) 0
+
+abbrev pub onlyMemory : Memory → Journaled
+onlyMemory m = journaled m [] []

@@ -1,0 +1,204 @@
+// Accesses as a program asks for them, in a regime given by its numbers: the segment table base, whether at user level,
+// whether translated. Untranslated ones stay clear of the walk.
+use crate::journal::note;
+use crate::journal::record_entry;
+use memory::answers::good;
+use memory::answers::raised;
+use memory::loads::load;
+use memory::loads::load_half;
+use memory::stores::store;
+use mmu::Kind;
+use mmu::Walk;
+use mmu::translation::translate;
+use word::Width;
+ghost use mathlib.Core.Path.{_≡_};
+ghost use mathlib.Core.Bool.{true};
+ghost use Prim.Native.Nat.{_+_, _*_, _/_, _%_};
+ghost use Rattle.word.specs.Widths.{bytesOf};
+ghost use Rattle.memory.specs.Answers.{answerOf};
+ghost use Rattle.mmu.specs.declared.Kind.the-variants as kind;
+ghost use Rattle.mmu.specs.declared.Walk.the-variants as walked;
+ghost use Rattle.mmu.specs.Walk.{walk};
+ghost use Rattle.program.specs.Access.{gave, fetch as fetches, read as reads, write as writes, probe as probes};
+ghost use Rattle.program.specs.Journal.{journaled, logging};
+ghost use Rattle.handler.specs.Followed.{followed, regimeFor, fitsWidth, onlyMemory};
+
+// Whether an address is aligned to a width.
+pub fn aligned(w: Width, a: u32) -> bool
+    ensures { λ r. ⌜ r ≡ fitsWidth w a ⌝ }
+{
+    match w {
+        Width::Byte => true,
+        Width::Half => a % 2 == 0,
+        Width::Word => a % 4 == 0,
+    }
+}
+
+fn read_walked(
+    m: &mut [u8],
+    places: &mut [u32; 201],
+    words: &mut [[u8; 4]; 200],
+    w: Width,
+    stb: u32,
+    user: bool,
+    a: u32,
+) -> u64
+    ensures { λ r. ⌜ gave (answerOf r) (journaled (now (m .exit)) (now (places .exit)) (now (words .exit))) ≡ followed (reads (regimeFor stb user true) w a) (walk user stb kind.Read a (now (m .entry))) (journaled (now (m .entry)) (now (places .entry)) (now (words .entry))) ⌝ }
+{
+    let x = translate(m, user, stb, Kind::Read, a);
+    match x {
+        Walk::Fault(c) => raised(c),
+        Walk::Direct(pa) => load(m, w, pa),
+        Walk::Paged(p, pa) => {
+            record_entry(m, places, words, Kind::Read, p);
+            load(m, w, pa)
+        }
+    }
+}
+
+// A number of a width.
+pub fn read(
+    m: &mut [u8],
+    places: &mut [u32; 201],
+    words: &mut [[u8; 4]; 200],
+    w: Width,
+    stb: u32,
+    user: bool,
+    translated: bool,
+    a: u32,
+) -> u64
+    ensures { λ r. ⌜ gave (answerOf r) (journaled (now (m .exit)) (now (places .exit)) (now (words .exit))) ≡ logging (reads (regimeFor stb user translated) w a) (journaled (now (m .entry)) (now (places .entry)) (now (words .entry))) ⌝ }
+{
+    if aligned(w, a) {
+        if translated {
+            read_walked(m, places, words, w, stb, user, a)
+        } else {
+            load(m, w, a)
+        }
+    } else {
+        raised(4)
+    }
+}
+
+// A store into the word of pa, which is noted.
+fn store_noted(
+    m: &mut [u8],
+    places: &mut [u32; 201],
+    words: &mut [[u8; 4]; 200],
+    w: Width,
+    pa: u32,
+    v: u32,
+) -> u64
+    ensures { λ r. ⌜ gave (answerOf r) (journaled (now (m .exit)) (now (places .exit)) (now (words .exit))) ≡ followed (writes (regimeFor 0 true true) w 0 v) (walked.Direct pa) (journaled (now (m .entry)) (now (places .entry)) (now (words .entry))) ⌝ }
+{
+    if pa as usize + word::widths::bytes(w) as usize <= m.len() {
+        note(m, places, words, pa / 4 * 4);
+        store(m, w, pa, v)
+    } else {
+        raised(10)
+    }
+}
+
+fn write_walked(
+    m: &mut [u8],
+    places: &mut [u32; 201],
+    words: &mut [[u8; 4]; 200],
+    w: Width,
+    stb: u32,
+    user: bool,
+    a: u32,
+    v: u32,
+) -> u64
+    ensures { λ r. ⌜ gave (answerOf r) (journaled (now (m .exit)) (now (places .exit)) (now (words .exit))) ≡ followed (writes (regimeFor stb user true) w a v) (walk user stb kind.Write a (now (m .entry))) (journaled (now (m .entry)) (now (places .entry)) (now (words .entry))) ⌝ }
+{
+    let x = translate(m, user, stb, Kind::Write, a);
+    match x {
+        Walk::Fault(c) => raised(c),
+        Walk::Direct(pa) => store_noted(m, places, words, w, pa, v),
+        Walk::Paged(p, pa) => {
+            record_entry(m, places, words, Kind::Write, p);
+            store_noted(m, places, words, w, pa, v)
+        }
+    }
+}
+
+// A store of the low bytes of v.
+pub fn write(
+    m: &mut [u8],
+    places: &mut [u32; 201],
+    words: &mut [[u8; 4]; 200],
+    w: Width,
+    stb: u32,
+    user: bool,
+    translated: bool,
+    a: u32,
+    v: u32,
+) -> u64
+    ensures { λ r. ⌜ gave (answerOf r) (journaled (now (m .exit)) (now (places .exit)) (now (words .exit))) ≡ logging (writes (regimeFor stb user translated) w a v) (journaled (now (m .entry)) (now (places .entry)) (now (words .entry))) ⌝ }
+{
+    if aligned(w, a) {
+        if translated {
+            write_walked(m, places, words, w, stb, user, a, v)
+        } else {
+            store_noted(m, places, words, w, a, v)
+        }
+    } else {
+        raised(4)
+    }
+}
+
+fn fetch_walked(
+    m: &mut [u8],
+    places: &mut [u32; 201],
+    words: &mut [[u8; 4]; 200],
+    stb: u32,
+    user: bool,
+    a: u32,
+) -> u64
+    ensures { λ r. ⌜ gave (answerOf r) (journaled (now (m .exit)) (now (places .exit)) (now (words .exit))) ≡ followed (fetches (regimeFor stb user true) a) (walk user stb kind.Fetch (a / 2 * 2) (now (m .entry))) (journaled (now (m .entry)) (now (places .entry)) (now (words .entry))) ⌝ }
+{
+    let x = translate(m, user, stb, Kind::Fetch, a / 2 * 2);
+    match x {
+        Walk::Fault(c) => raised(c),
+        Walk::Direct(pa) => load_half(m, pa),
+        Walk::Paged(p, pa) => {
+            record_entry(m, places, words, Kind::Fetch, p);
+            load_half(m, pa)
+        }
+    }
+}
+
+// A parcel of text.
+pub fn fetch(
+    m: &mut [u8],
+    places: &mut [u32; 201],
+    words: &mut [[u8; 4]; 200],
+    stb: u32,
+    user: bool,
+    translated: bool,
+    a: u32,
+) -> u64
+    ensures { λ r. ⌜ gave (answerOf r) (journaled (now (m .exit)) (now (places .exit)) (now (words .exit))) ≡ logging (fetches (regimeFor stb user translated) a) (journaled (now (m .entry)) (now (places .entry)) (now (words .entry))) ⌝ }
+{
+    if translated {
+        fetch_walked(m, places, words, stb, user, a)
+    } else {
+        load_half(m, a / 2 * 2)
+    }
+}
+
+// Whether stores at a are valid: nothing is recorded, and a bad one is a read fault.
+pub fn probe(m: &[u8], stb: u32, user: bool, translated: bool, a: u32) -> u64
+    ensures { λ r. ⌜ gave (answerOf r) (onlyMemory (now (m .entry))) ≡ logging (probes (regimeFor stb user translated) a) (onlyMemory (now (m .entry))) ⌝ }
+{
+    if translated {
+        let x = translate(m, user, stb, Kind::Write, a);
+        match x {
+            Walk::Fault(c) => { if c == 9 { raised(8) } else { raised(c) } }
+            Walk::Direct(pa) => good(0),
+            Walk::Paged(p, pa) => good(0),
+        }
+    } else {
+        good(0)
+    }
+}

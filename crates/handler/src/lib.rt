@@ -1,0 +1,3 @@
+// What memory and journal do with an access: alignment, translation, recording, and the touch, each change noted.
+pub mod accesses;
+pub mod journal;

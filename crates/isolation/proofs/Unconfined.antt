@@ -1,0 +1,179 @@
+-- Before its first event sequence a run of kind 03 takes the steps of a confined run.
+-- Assumes nothing.
+use Prim.Native.Nat.{ℕ, zero, suc, _<_, _≤_}
+use mathlib.Core.Path.{_≡_, refl, sym, ap, _∙_}
+use mathlib.Core.Bool.{Bool, true, false, cond, not, _&&_}
+use native.Mathlib.Omega.{arith}
+use lib.ListN.{length, getD}
+use lib.Seq.{getD-set-other}
+use lib.Dec.{leb}
+use Rattle.memory.specs.Bytes.{Memory, wholePages, oddBoard}
+use Rattle.program.specs.Access.{Gave, gave}
+use Rattle.program.specs.Program.{ret, interpret, plain}
+use Rattle.program.proofs.Interpret.{interpret-after}
+use Rattle.machine.specs.Registers.{psw, sp, msp, traceDue, goodBank, badRegister}
+use Rattle.machine.specs.Status.{Cpu, reg, isUser, isVirtual}
+use Rattle.access.specs.Parts.{Out, ok, stop, onward, _>>=_, done}
+use Rattle.exec.specs.Execute.{normal, execute, Traced, traced}
+use Rattle.step.specs.Events.{Due, none, interrupt, timer1, timer2, trace, dueOf, looked, dueCode}
+use Rattle.step.specs.Step.{Met, meets, vectored, fetchInstruction, Acted, finished, sequenced, act, attempt, tracesAt, traceFalls, stepped, finish, instructionStep, stepFor, step, timed, holdsStack}
+use Rattle.run.specs.Run.{Board, board, Turn, goes, ends, unlessLost, afterStep, turn, Tried, tried, fetched, kcallCode, unimplementedCode, isKcall, tryActed, confinedAttempt, afterTry, tryTurn, confinedFor, confinedTurn, Ended, budgetSpent, going, advance, refusal, badLevel, notConfined, unlessRefused, run}
+use Rattle.isolation.specs.Course.{Order, confined, course}
+use Rattle.isolation.proofs.Courses.{course-at, course-steps, course-spent}
+
+-- an attempt of either kind that ends in a finished instruction ends in it for the other
+abbrev Follows : Gave Memory (Out Tried) → Gave Memory (Out Acted) → Type 0
+Follows x y = (t : Traced) (d : Cpu) → x .out ≡ ok (tried (finished t d)) → y ≡ gave (ok (finished t d)) (x .world)
+
+act-follows : (c : Cpu) (k : Met) (m : Memory) → Follows (interpret plain (tryActed c k) m) (interpret plain (act c k) m)
+unfolding tryActed act _>>=_ onward interpret
+act-follows c (vectored v) m = λ t d h. let z : _≡_ {A = ℕ} 0 1 = cc in absurd (omega arith)
+act-follows c (meets i) m = go (isKcall (normal i))
+  where
+    ran : (o : Out Cpu) (w : Memory)
+        → Follows (interpret plain (onward (λ d. ret (ok (tried (finished (traced (normal i)) d)))) o) w)
+        (interpret plain (onward (λ d. done (finished (traced (normal i)) d)) o) w)
+    ran (ok d) w t e h =
+        let p : traced (normal i) ≡ t = cc in
+        let q : d ≡ e = cc in
+        rw (p, q) refl
+    ran (stop n d) w t e h = let z : _≡_ {A = ℕ} 0 1 = cc in absurd (omega arith)
+
+    go : (b : Bool) → Follows
+        (interpret plain (cond b (ret (ok (fetched kcallCode))) (execute c i >>= (λ d. ret (ok (tried (finished (traced (normal i)) d)))))) m)
+        (interpret plain (execute c i >>= (λ d. done (finished (traced (normal i)) d))) m)
+    go true = λ t d h. let z : _≡_ {A = ℕ} 0 1 = cc in absurd (omega arith)
+    go false =
+        rw (
+          interpret-after plain (execute c i) (onward (λ d. ret (ok (tried (finished (traced (normal i)) d))))) m,
+          interpret-after plain (execute c i) (onward (λ d. done (finished (traced (normal i)) d))) m,
+        )
+        (ran (interpret plain (execute c i) m .out) (interpret plain (execute c i) m .world))
+
+attempt-follows : (c : Cpu) (m : Memory) → Follows (interpret plain (confinedAttempt c) m) (interpret plain (attempt c) m)
+unfolding confinedAttempt attempt _>>=_ onward interpret
+attempt-follows c m =
+    rw (interpret-after plain (fetchInstruction c) (onward (tryActed c)) m, interpret-after plain (fetchInstruction c) (onward (act c)) m)
+    (go (interpret plain (fetchInstruction c) m .out) (interpret plain (fetchInstruction c) m .world))
+  where
+    go : (o : Out Met) (w : Memory) → Follows (interpret plain (onward (tryActed c) o) w) (interpret plain (onward (act c) o) w)
+    go (ok k) w = act-follows c k w
+    go (stop n d) w = λ t e h. let z : _≡_ {A = ℕ} 0 1 = cc in absurd (omega arith)
+
+-- a trace that falls due moves no stack
+holds-traced : (b : Bool) (d : Cpu) → holdsStack (traceFalls b d) ≡ holdsStack d
+holds-traced true d =
+    rw (getD-set-other (d .bank) traceDue sp 1 0 (λ e. omega arith), getD-set-other (d .bank) traceDue msp 1 0 (λ e. omega arith)) refl
+holds-traced false d = refl
+
+-- ---- one turn
+
+module _ (s u : Board) (c : Cpu) where
+  lost-never : (b : Bool) (t : Turn) → (t ≡ goes u → ⊥) → unlessLost b s t ≡ goes u → ⊥
+  lost-never true t f h = f h
+  lost-never false t f h = let z : _≡_ {A = ℕ} 0 1 = cc in omega arith
+
+  ends-never : (reason code : ℕ) (v : Board) → ends reason code v ≡ goes u → ⊥
+  ends-never reason code v h = let z : _≡_ {A = ℕ} 0 1 = cc in omega arith
+
+  step-same : (g : Gave Memory (Out Tried)) (y : Gave Memory (Out Acted)) → Follows g y → tryTurn s c g ≡ goes u
+      → afterStep s (interpret plain (finish (reg c psw) (y .out)) (y .world)) ≡ goes u
+  unfolding interpret finish
+  step-same g y f h = go (g .out) refl h
+    where
+      go : (o : Out Tried) → g .out ≡ o → afterTry s c o (g .world) ≡ goes u
+          → afterStep s (interpret plain (finish (reg c psw) (y .out)) (y .world)) ≡ goes u
+      go (ok (tried (finished t d))) e h = rw (f t d e, holds-traced (tracesAt (reg c psw) t) d) h
+      go (ok (tried (sequenced d))) e h = absurd (lost-never (holdsStack d) _ (ends-never 2 unimplementedCode (board d (g .world))) h)
+      go (ok (fetched code)) e h = absurd (lost-never (holdsStack c) _ (ends-never 2 code (board c (g .world))) h)
+      go (stop n d) e h = absurd (lost-never (holdsStack d) _ (ends-never 2 n (board d (g .world))) h)
+
+  for-same : (d : Due) → confinedFor d s c ≡ goes u → afterStep s (interpret plain (stepFor d c) (s .memory)) ≡ goes u
+  unfolding instructionStep
+  for-same none h =
+      rw (interpret-after plain (attempt c) (finish (reg c psw)) (s .memory))
+      (step-same (interpret plain (confinedAttempt c) (s .memory)) (interpret plain (attempt c) (s .memory)) (attempt-follows c (s .memory)) h)
+  for-same (interrupt n) h = absurd (ends-never 2 (dueCode (interrupt n)) (board c (s .memory)) h)
+  for-same timer1 h = absurd (ends-never 2 (dueCode timer1) (board c (s .memory)) h)
+  for-same timer2 h = absurd (ends-never 2 (dueCode timer2) (board c (s .memory)) h)
+  for-same trace h = absurd (ends-never 2 (dueCode trace) (board c (s .memory)) h)
+
+-- where a confined run takes a step, a run of kind 03 takes the same
+pub turn-same : (level : ℕ) (s u : Board) → confinedTurn level s ≡ goes u → turn level s ≡ goes u
+unfolding confinedTurn turn step
+turn-same level s u h = for-same s u (looked level (s .cpu)) (dueOf level (looked level (s .cpu) .bank)) h
+
+-- ---- a run
+
+-- a confined turn that ends is no spent budget
+abbrev Stops : Turn → Type 0
+Stops (goes s) = Unit {0}
+Stops (ends reason code s) = 1 ≤ reason
+
+module _ (s : Board) (c : Cpu) where
+  lost-stops : (b : Bool) (t : Turn) → Stops t → Stops (unlessLost b s t)
+  lost-stops true t h = h
+  lost-stops false t h = omega arith
+
+  after-stops : (o : Out Tried) (m : Memory) → Stops (afterTry s c o m)
+  after-stops (ok (tried (finished t d))) m =
+      lost-stops (holdsStack d) (goes (board (timed (s .cpu) (stepped (traceFalls (tracesAt (reg c psw) t) d) true)) m)) tt
+  after-stops (ok (tried (sequenced d))) m = lost-stops (holdsStack d) (ends 2 unimplementedCode (board d m)) (omega arith)
+  after-stops (ok (fetched code)) m = lost-stops (holdsStack c) (ends 2 code (board c m)) (omega arith)
+  after-stops (stop n d) m = lost-stops (holdsStack d) (ends 2 n (board d m)) (omega arith)
+
+  for-stops : (d : Due) → Stops (confinedFor d s c)
+  for-stops none = after-stops (interpret plain (confinedAttempt c) (s .memory) .out) (interpret plain (confinedAttempt c) (s .memory) .world)
+  for-stops (interrupt n) = omega arith
+  for-stops timer1 = omega arith
+  for-stops timer2 = omega arith
+  for-stops trace = omega arith
+
+turn-stops : (level : ℕ) (s : Board) → Stops (confinedTurn level s)
+unfolding confinedTurn
+turn-stops level s = for-stops s (looked level (s .cpu)) (dueOf level (looked level (s .cpu) .bank))
+
+advance-same : (level n budget : ℕ) (s : Board) → advance (confinedTurn level) n budget s .stop ≡ budgetSpent
+    → advance (turn level) n budget s ≡ advance (confinedTurn level) n budget s
+unfolding advance
+advance-same level n zero s h = refl
+advance-same level n (suc budget) s h =
+    go (λ u. advance-same level (suc n) budget u) (confinedTurn level s) refl (turn-stops level s) h
+  where
+    go : ((u : Board) → advance (confinedTurn level) (suc n) budget u .stop ≡ budgetSpent
+        → advance (turn level) (suc n) budget u ≡ advance (confinedTurn level) (suc n) budget u)
+        → (x : Turn) → confinedTurn level s ≡ x → Stops x → going n (λ u. advance (confinedTurn level) (suc n) budget u) x .stop ≡ budgetSpent
+        → going n (λ u. advance (turn level) (suc n) budget u) (turn level s) ≡ going n (λ u. advance (confinedTurn level) (suc n) budget u) x
+    go f (goes u) e p h = rw (turn-same level s u e) (f u h)
+    go f (ends reason code u) e p h = absurd (omega arith)
+
+-- what a confined run does not refuse, kind 03 does not
+refusal-kind : (level : ℕ) (s : Board) → refusal true level s ≡ 0 → refusal false level s ≡ 0
+unfolding refusal
+refusal-kind level s e =
+    go (wholePages (length (s .memory))) (goodBank (s .cpu .bank)) (leb level 7) (isUser (s .cpu .bank) && isVirtual (s .cpu .bank)) e
+  where
+    go : (w g l u : Bool) → cond (not w) oddBoard (cond (not g) badRegister (cond (not l) badLevel (cond (true && not u) notConfined 0))) ≡ 0
+        → cond (not w) oddBoard (cond (not g) badRegister (cond (not l) badLevel (cond (false && not u) notConfined 0))) ≡ 0
+    go true true true u z = refl
+    go true true false u z = z
+    go true false l u z = z
+    go false g l u z = z
+
+-- a confined run that spends its budget is the run of kind 03
+pub run-same : (budget level : ℕ) (s : Board) → run true budget level s .stop ≡ budgetSpent → run false budget level s ≡ run true budget level s
+unfolding run
+run-same budget level s h = go (refusal true level s) refl h
+  where
+    go : (r : ℕ) → refusal true level s ≡ r → unlessRefused r (advance (confinedTurn level) 0 budget s) s .stop ≡ budgetSpent
+        → unlessRefused (refusal false level s) (advance (turn level) 0 budget s) s ≡ unlessRefused r (advance (confinedTurn level) 0 budget s) s
+    go zero e h = rw (refusal-kind level s e) (advance-same level 0 budget s h)
+    go (suc r) e h = absurd (omega arith)
+
+-- so the board after each step of a confined run is what kind 03 leaves after as many
+pub course-unconfined : (o : Order) (k : ℕ) (s d : Board) → k < confined o s .steps
+    → getD (course o s) k d ≡ run false (suc k) (o .level) s .left
+course-unconfined o k s d l =
+    let p = course-spent o (suc k) s (omega arith) (omega arith) in
+    course-at o k s d (omega (arith, course-steps o s))
+    ∙ sym (ap (λ (e : Ended). e .left) (run-same (suc k) (o .level) s (ap (λ (e : Ended). e .stop) p)))

@@ -1,0 +1,10 @@
+pub mod BankLaws
+pub mod CacheLaws
+pub mod Digits
+pub mod Flat
+pub mod RecordLaws
+pub mod RegisterLaws
+pub mod Sizes
+pub mod Words
+pub mod Tests
+pub mod AssignLaws
