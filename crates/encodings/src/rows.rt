@@ -11,7 +11,7 @@ use isa::Single;
 ghost use mathlib.Core.Path.{_≡_};
 ghost use Prim.Native.Nat.{_<_};
 ghost use Rattle.isa.specs.Encodings.{shortListed, dyadicListed, monadicListed};
-ghost use Rattle.encodings.specs.Lines.{opcodeLine, stackLine, niladicLine, dyadicLine, monadicLine};
+ghost use Rattle.isa.specs.Encodings.{opcodeLine, stackLine, niladicLine, dyadicLine, monadicLine};
 
 // A line at length 2 with its own opcode.
 fn opcode_line(k: u32, s: FieldMode, d: FieldMode) -> ShortListed

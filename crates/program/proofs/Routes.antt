@@ -5,8 +5,6 @@ use mathlib.Core.Path.{_≡_, refl, sym, ap, _∙_}
 use mathlib.Core.Bool.{Bool, true, false, cond, _&&_}
 use native.Mathlib.Omega.{arith}
 use lib.Dec.{leb}
-use Rattle.laws.proofs.Cases.{by-test}
-use Rattle.memory.specs.Answers.{walkFault}
 use Rattle.memory.specs.Bytes.{Memory, number, holds}
 use Rattle.mmu.specs.declared.Kind.{Kind}
 use Rattle.mmu.specs.declared.Segment.{Segment}
@@ -14,6 +12,7 @@ use Rattle.mmu.specs.declared.Segment.the-variants.{Outside, Invalid, Nonpaged,
 use Rattle.mmu.specs.declared.Walk.{Walk}
 use Rattle.mmu.specs.declared.Walk.the-variants.{Fault, Direct, Paged}
 use Rattle.mmu.specs.declared.Regime.{Regime}
+use Rattle.mmu.proofs.Shape.{segment-table}
 use Rattle.mmu.specs.Walk.{faultOf, segmentPlace, pagePlace, valid, nonpaged, segmentOf, segment, permits, nonpagedOf, pageOf, walkFrom, walk, route}
 
 -- a walk that ends at an address keeps its place in the word, and a page entry lies in memory
@@ -29,21 +28,13 @@ TableHolds m (Nonpaged e) = Unit {0}
 TableHolds m (Table p) = holds m p 4 ≡ true
 
 segment-holds : (stb va : ℕ) (m : Memory) → TableHolds m (segment stb va m)
-unfolding segment segmentOf
-segment-holds stb va m = first (holds m (segmentPlace stb va) 4) (number 4 m (segmentPlace stb va))
+segment-holds stb va m = go (segment stb va m) refl
   where
-    third : (b : Bool) (p : ℕ) → holds m p 4 ≡ b → TableHolds m (cond b (Table p) Outside)
-    third true p e = e
-    third false p e = tt
-
-    second : (a b : Bool) (e : ℕ) → TableHolds m (cond a (cond b (Nonpaged e) (cond (holds m (pagePlace e va) 4) (Table (pagePlace e va)) Outside)) Invalid)
-    second true true e = tt
-    second true false e = third (holds m (pagePlace e va) 4) (pagePlace e va) refl
-    second false b e = tt
-
-    first : (a : Bool) (e : ℕ) → TableHolds m (cond a (cond (valid e) (cond (nonpaged e) (Nonpaged e) (cond (holds m (pagePlace e va) 4) (Table (pagePlace e va)) Outside)) Invalid) Outside)
-    first true e = second (valid e) (nonpaged e) e
-    first false e = tt
+    go : (s : Segment) → segment stb va m ≡ s → TableHolds m s
+    go Outside e = tt
+    go Invalid e = tt
+    go (Nonpaged w) e = tt
+    go (Table p) e = segment-table stb va m p e .held
 
 direct-ends : (m : Memory) (va pa c : ℕ) (b : Bool) → pa % 4 ≡ va % 4 → Ends m va (cond b (Direct pa) (Fault c))
 direct-ends m va pa c true e = e

@@ -5,6 +5,7 @@ use mathlib.Core.Bool.{Bool, true, false}
 use Prim.Native.Nat.{ℕ, _+_, _-_, _*_, _%_, _^_, _<_, _≤_}
 use native.Mathlib.Nat.{le-of-lt, lt-of-le-of-lt, mul-le-mul-left, mul-lt-mul-of-pos-right, mod-lt, div-le-self, mod-le}
 use native.Mathlib.Omega.{arith}
+use Rattle.laws.proofs.Cases.{by-test}
 use lib.Dec.{leb}
 use lib.Pow.{pow-pos, pow-add, shr-le, shr-mono}
 use borrow.Author.Tests.{leb-true}
@@ -14,11 +15,6 @@ use Rattle.word.specs.Sums.{plusOf, minusOf, addOf, subOf}
 use Rattle.word.specs.Products.{mulOf, udivOf, uremOf, divOf}
 use Rattle.word.specs.Shifts.{shlOf, shrOf, ushrOf}
 use Rattle.word.specs.Tags.{badTagOf, taggedOf, taggedAddOf, taggedSubOf}
-
--- by the two values of a test, each with its equation
-pub by-test : {P : Type 0} (b : Bool) → (b ≡ true → P) → (b ≡ false → P) → P
-by-test true f g = f refl
-by-test false f g = g refl
 
 -- the product of two numbers of k bits has at most k + k
 pub product-lt : (k : ℕ) {a b : ℕ} → a < 2 ^ k → b < 2 ^ k → a * b < 2 ^ (k + k)

@@ -10,7 +10,7 @@ use borrow.Author.Tests.{leb-true, leb-false, ltb-false}
 use Rattle.word.specs.Signed.{biased, outside, negativeOf, magnitudeOf, withSign}
 use Rattle.word.specs.Sums.{addOf, subOf}
 use Rattle.word.specs.Products.{udivOf, uremOf}
-use Rattle.word.proofs.Laws.{by-test}
+use Rattle.laws.proofs.Cases.{by-test}
 
 -- the two ways to give a signed number agree: n + 2 ^ 31 is 2 ^ 31 less or more the magnitude, by the sign
 pub biased-magnitude : (x : ℕ) → x < 2 ^ 32 → biased x ≡ cond (negativeOf x) (2 ^ 31 - magnitudeOf x) (2 ^ 31 + magnitudeOf x)

@@ -9,7 +9,7 @@ use lib.Dec.{leb, ltb, eqb}
 use borrow.Author.Tests.{leb-true, leb-false, ltb-false, le-ltb, eqb-true, eqb-false}
 use Rattle.word.specs.Signed.{magnitudeOf, withSign, differOf, limitOf}
 use Rattle.word.specs.Products.{mulOf, udivOf, divOf}
-use Rattle.word.proofs.Laws.{by-test}
+use Rattle.laws.proofs.Cases.{by-test}
 
 -- a word b and m = 2 ^ 32 - b are opposite modulo 2 ^ 32, and so are their products with a
 opposite : (b m a : ℕ) → b + m ≡ 2 ^ 32 → b * a + m * a ≡ 2 ^ 32 * a
