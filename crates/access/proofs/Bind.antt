@@ -1,8 +1,12 @@
 -- One part after another under the journal, and a part that is one access.
 -- Assumes nothing.
 use mathlib.Core.Path.{_≡_, refl, sym, ap, _∙_}
-use Prim.Native.Nat.{ℕ}
-use Rattle.memory.specs.Answers.{Answer, got, bad}
+use mathlib.Core.Bool.{Bool, true, false, cond, _||_}
+use Prim.Native.Nat.{ℕ, _%_, _^_, _<_, _≤_}
+use lib.ListN.{set}
+use lib.Dec.{eqb}
+use Rattle.memory.specs.Answers.{Answer, got, bad, answerOf}
+use Rattle.memory.proofs.AnswerLaws.{answer-low, answer-high}
 use Rattle.program.specs.Access.{Access, fetch, read, write, probe, Gave, gave}
 use Rattle.program.specs.Program.{Program, ret, ask, Handler, interpret, after}
 use Rattle.program.specs.Journal.{Journaled, logging}
@@ -13,7 +17,7 @@ use Rattle.machine.specs.Registers.{Bank}
 use Rattle.machine.specs.Cache.{Cache}
 use Rattle.machine.specs.Status.{Cpu, cpu, regime, kernelRegime}
 use Rattle.mmu.specs.declared.Regime.{Regime}
-use Rattle.access.specs.Parts.{Out, ok, stop, onward, _>>=_, replied, request, plainReplied, plainRequest, frameReplied, frameRequest}
+use Rattle.access.specs.Parts.{Out, ok, stop, onward, _>>=_, faulted, replied, request, plainReplied, plainRequest, frameReplied, frameRequest}
 use Rattle.access.specs.Data.{readFrame, writeFrame, checkStore}
 use Rattle.access.specs.Text.{fetchParcel}
 
@@ -39,3 +43,21 @@ module _ (c : Cpu) (x : Answer) (t u : Journaled) where
   pub frame-stored : (a v : ℕ) → gave x u ≡ logging (write (kernelRegime (c .bank)) Word a v) t → interpret logging (writeFrame c a v) t ≡ gave (frameReplied c x) u
   unfolding writeFrame frameRequest interpret
   frame-stored a v e = ap (λ (g : Gave Journaled Answer). gave (frameReplied c (g .out)) (g .world)) (sym e)
+
+-- a fault's machine, by its bank
+pub faulted-bank : (b : Bank) (q : Cache) (e a : ℕ) → faulted (cpu b q) e a ≡ cpu (cond (eqb e 8 || eqb e 9) (set b 1 a) b) q
+faulted-bank b q e a = go (eqb e 8 || eqb e 9)
+  where
+    go : (t : Bool) → cond t (cpu (set b 1 a) q) (cpu b q) ≡ cpu (cond t (set b 1 a) b) q
+    go true = refl
+    go false = refl
+
+-- a first part by the number of its answer: the rest goes on with the value, or the exception stops it
+module _ {B : Type 0} (c : Cpu) (a x : ℕ) (p : Program (Out ℕ)) (f : ℕ → Program (Out B)) (t u : Journaled) (e : gave (replied c a (answerOf x)) u ≡ interpret logging p t) where
+  pub bind-low : x < 2 ^ 32 → interpret logging (p >>= f) t ≡ interpret logging (f (x % 2 ^ 32)) u
+  unfolding onward
+  bind-low h = rw (bind p f t, ← e, answer-low x h) refl
+
+  pub bind-high : 2 ^ 32 ≤ x → interpret logging (p >>= f) t ≡ gave (stop (x % 2 ^ 32) (faulted c (x % 2 ^ 32) a)) u
+  unfolding onward interpret
+  bind-high h = rw (bind p f t, ← e, answer-high x h) refl

@@ -1,3 +1,4 @@
-// The accesses of an instruction: data, text, frames, and the moves of the stack cache.
+// The accesses of an instruction: data, text and frames, and the address that a fault leaves.
 pub mod data;
+pub mod faults;
 pub mod text;

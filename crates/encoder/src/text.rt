@@ -58,7 +58,8 @@ pub fn five_parcels(p: u16, a: u16, b: u16, c: u16, d: u16) -> Text
     }
 }
 
-// The CPU prefix before a text of at most five parcels.
+// The CPU prefix before a text of at most five parcels: a sixth would have no place. The module is private, and its
+// callers pass three or five.
 pub fn with_prefix(prefix: bool, t: Text) -> Text
     requires { ⌜ t .count < 6 ⌝ }
     ensures { λ r. ⌜ r ≡ withPrefix prefix t ⌝ }
