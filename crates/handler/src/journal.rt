@@ -1,7 +1,9 @@
 // The journal of a step, in two lent arrays: the number of entries with their places, and the bytes of before.
 use mmu::Kind;
 ghost use mathlib.Core.Path.{_≡_};
-ghost use Rattle.program.specs.Journal.{journal, journaled, note as noteOf, entryNote};
+ghost use Prim.Native.Nat.{min};
+ghost use lib.ListN.{set};
+ghost use Rattle.program.specs.Journal.{journal, journaled, count, room, note as noteOf, entryNote, restored, undo as undoOf};
 ghost use Rattle.mmu.specs.Walk.{recorded};
 
 // The word at a, as it is.
@@ -33,5 +35,51 @@ pub fn record_entry(
     if mmu::recording::is_fresh(m, k, p) {
         note(m, places, words, p);
         mmu::recording::record_access(m, k, p);
+    }
+}
+
+// A journal without entries.
+pub fn begin(places: &mut [u32; 201])
+    ensures { λ r. ⌜ now (places .exit) ≡ set (now (places .entry)) 0 0 ⌝ }
+{
+    places[0] = 0;
+}
+
+// A byte put back; one outside memory is not.
+fn put_byte(m: &mut [u8], i: usize, b: u8)
+    ensures { λ r. ⌜ now (m .exit) ≡ set (now (m .entry)) i b ⌝ }
+{
+    if i < m.len() {
+        m[i] = b;
+    }
+}
+
+// Four bytes put back.
+fn restore(m: &mut [u8], a: u32, w: [u8; 4])
+    ensures { λ r. ⌜ now (m .exit) ≡ restored (now (m .entry)) a w ⌝ }
+{
+    let i = a as usize;
+    put_byte(m, i, w[0]);
+    put_byte(m, i + 1, w[1]);
+    put_byte(m, i + 2, w[2]);
+    put_byte(m, i + 3, w[3]);
+}
+
+// The number of entries.
+fn entries(places: &[u32; 201], words: &[[u8; 4]; 200]) -> usize
+    ensures { λ r. ⌜ r ≡ min (count (journal (now (places .entry)) (now (words .entry)))) room ⌝ }
+{
+    let n = places[0];
+    if n < 200 { n as usize } else { 200 }
+}
+
+// All entries put back, the last one first.
+pub fn undo(m: &mut [u8], places: &[u32; 201], words: &[[u8; 4]; 200])
+    ensures { λ r. ⌜ now (m .exit) ≡ undoOf (journal (now (places .entry)) (now (words .entry))) (now (m .entry)) ⌝ }
+{
+    let mut i = entries(places, words);
+    while 0 < i {
+        restore(m, places[i], words[i - 1]);
+        i = i - 1;
     }
 }

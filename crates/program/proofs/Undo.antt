@@ -1,6 +1,7 @@
 -- The journal puts memory back exactly, whatever program was interpreted, if it asks for no more than the journal has room for.
 -- Assumes nothing.
-use Prim.Native.Nat.{ℕ, zero, suc, _+_, _*_, _/_, _%_, _<_, _≤_}
+use Prim.Native.Nat.{ℕ, zero, suc, _+_, _*_, _/_, _%_, _<_, _≤_, min}
+use native.Mathlib.Nat.{min-eq-left, le-of-lt}
 use mathlib.Core.Path.{_≡_, refl, sym, ap, _∙_}
 use mathlib.Core.Bool.{Bool, true, false, cond, _&&_}
 use mathlib.Core.List.{List, [], _∷_}
@@ -92,11 +93,12 @@ module _ (a : ℕ) (m : Memory) (j : Journal) (s : Sized j) (h : count j < room)
   pub note-undo : (n : Memory) → Near m a n → undo (note a m j) n ≡ undo j m
   unfolding undo
   note-undo n r =
-      ap (λ (x : ℕ). undone x (note a m j) n) (note-count ∙ up)
+      ap (λ (x : ℕ). undone x (note a m j) n) (ap (λ (x : ℕ). min x room) (note-count ∙ up) ∙ min-eq-left h)
       ∙ ap (λ (i : Journal). undone (suc k) i n) note-is
       ∙ undone-step k entered n a (fourBytes m a) place-k word-k
       ∙ ap (λ (z : Memory). undone k entered z) (restored-near m a n r)
       ∙ undone-same k entered j m before
+      ∙ ap (λ (x : ℕ). undone x j m) (sym (min-eq-left (le-of-lt h)))
     where
       k : ℕ
       k = count j

@@ -1,6 +1,6 @@
 -- The journal of a step: the place of each word that changes with its four bytes of before, so that a refused step leaves nothing.
 -- Assumes nothing.
-use Prim.Native.Nat.{ℕ, zero, suc, _+_, _*_, _/_}
+use Prim.Native.Nat.{ℕ, zero, suc, _+_, _*_, _/_, min}
 use mathlib.Core.Bool.{Bool, true, false, cond, _&&_}
 use mathlib.Core.List.{List, [], _∷_}
 use lib.ListN.{getD, set, length}
@@ -48,8 +48,9 @@ unfoldable pub undone : ℕ → Journal → Memory → Memory
 undone zero j m = m
 undone (suc n) j m = undone n j (restored m (getD (j .places) (suc n) 0) (getD (j .words) n []))
 
+-- all of them: no journal of a step counts more than there is room for
 unfoldable pub undo : Journal → Memory → Memory
-undo j m = undone (count j) j m
+undo j m = undone (min (count j) room) j m
 
 -- what an access notes: the word that it stores into, and before that the page entry whose bits change
 unfoldable pub touchNote : Access → ℕ → Memory → Journal → Journal

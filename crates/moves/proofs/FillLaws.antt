@@ -1,0 +1,138 @@
+-- The ways out of filling a quad-word, and the quad-words from MSP up.
+-- Assumes nothing.
+use Prim.Native.Nat.{ℕ, suc, _-_, _/_, _%_, _^_, _<_, _≤_}
+use mathlib.Core.Path.{_≡_, refl, sym, _∙_}
+use mathlib.Core.Bool.{Bool, true, false}
+use mathlib.Core.List.{List, [], _∷_}
+use native.Mathlib.Omega.{arith}
+use lib.ListN.{getD, set, length}
+use Rattle.word.specs.declared.Width.the-variants.{Word}
+use Rattle.word.specs.Sums.{plusOf}
+use Rattle.memory.specs.Answers.{answerOf}
+use Rattle.memory.specs.Bytes.{Memory}
+use Rattle.memory.proofs.AnswerLaws.{answer-low, answer-high}
+use Rattle.mmu.specs.declared.Regime.{Regime}
+use Rattle.program.specs.Access.{read, Gave, gave}
+use Rattle.program.specs.Program.{Program, interpret}
+use Rattle.program.specs.Journal.{Journaled, journaled, logging}
+use Rattle.machine.specs.Registers.{Bank}
+use Rattle.machine.specs.Cache.{Cache}
+use Rattle.machine.specs.Status.{Cpu, cpu}
+use Rattle.access.specs.Parts.{Out, ok, onward, _>>=_, done, replied}
+use Rattle.access.specs.Code.{ended}
+use Rattle.access.specs.Moves.{fillWord, filled, fillQuad, mayFill, fill}
+use Rattle.access.proofs.Bind.{bind, requested, bind-low, bind-high}
+use Rattle.moves.proofs.Stops.{faultBank, stopped}
+
+-- ---- a quad-word: word by word
+
+module _ (b : Bank) (q : Cache) (g : Regime) (a : ℕ) where
+  -- what follows the third word, the second, and the first
+  abbrev after-third : ℕ → ℕ → ℕ → ℕ → Program (Out Cpu)
+  after-third d v w x = fillWord (cpu b q) g d >>= (λ z. done (filled (cpu b q) a v w x z))
+
+  abbrev after-second : ℕ → ℕ → ℕ → ℕ → Program (Out Cpu)
+  after-second c d v w = fillWord (cpu b q) g c >>= after-third d v w
+
+  abbrev after-first : ℕ → ℕ → ℕ → ℕ → Program (Out Cpu)
+  after-first y c d v = fillWord (cpu b q) g y >>= after-second c d v
+
+  word-filled : (d x : ℕ) (s u : Journaled) → gave (answerOf x) u ≡ logging (read g Word d) s → gave (replied (cpu b q) d (answerOf x)) u ≡ interpret logging (fillWord (cpu b q) g d) s
+  unfolding fillWord
+  word-filled d x s u e = sym (requested (cpu b q) (answerOf x) s u (read g Word d) d e)
+
+  module _ (t : Journaled) (x0 : ℕ) (t0 : Journaled) (e0 : gave (answerOf x0) t0 ≡ logging (read g Word a) t) (s : Bank) where
+    pub fill-first : 2 ^ 32 ≤ x0 → s ≡ faultBank b x0 a → gave (ended (answerOf x0) s q) t0 ≡ interpret logging (fillQuad (cpu b q) g a) t
+    unfolding fillQuad
+    fill-first h es =
+        stopped b s q x0 a t0 h es
+        ∙ sym (bind-high (cpu b q) a x0 (fillWord (cpu b q) g a) (after-first (plusOf a 4) (plusOf a 8) (plusOf a 12)) t t0 (word-filled a x0 t t0 e0) h)
+
+    module _ (h0 : x0 < 2 ^ 32) (y : ℕ) (ey : y ≡ plusOf a 4) (x1 : ℕ) (t1 : Journaled) (e1 : gave (answerOf x1) t1 ≡ logging (read g Word y) t0) where
+      first-read : interpret logging (fillQuad (cpu b q) g a) t ≡ interpret logging (after-first y (plusOf a 8) (plusOf a 12) (x0 % 2 ^ 32)) t0
+      unfolding fillQuad
+      first-read =
+          rw ey (bind-low (cpu b q) a x0 (fillWord (cpu b q) g a) (after-first (plusOf a 4) (plusOf a 8) (plusOf a 12)) t t0 (word-filled a x0 t t0 e0) h0)
+
+      pub fill-second : 2 ^ 32 ≤ x1 → s ≡ faultBank b x1 y → gave (ended (answerOf x1) s q) t1 ≡ interpret logging (fillQuad (cpu b q) g a) t
+      fill-second h es =
+          stopped b s q x1 y t1 h es
+          ∙ sym (first-read ∙ bind-high (cpu b q) y x1 (fillWord (cpu b q) g y) (after-second (plusOf a 8) (plusOf a 12) (x0 % 2 ^ 32)) t0 t1 (word-filled y x1 t0 t1 e1) h)
+
+      module _ (h1 : x1 < 2 ^ 32) (c : ℕ) (ec : c ≡ plusOf a 8) (x2 : ℕ) (t2 : Journaled) (e2 : gave (answerOf x2) t2 ≡ logging (read g Word c) t1) where
+        second-read : interpret logging (fillQuad (cpu b q) g a) t ≡ interpret logging (after-second c (plusOf a 12) (x0 % 2 ^ 32) (x1 % 2 ^ 32)) t1
+        second-read =
+            first-read
+            ∙ rw ec (bind-low (cpu b q) y x1 (fillWord (cpu b q) g y) (after-second (plusOf a 8) (plusOf a 12) (x0 % 2 ^ 32)) t0 t1 (word-filled y x1 t0 t1 e1) h1)
+
+        pub fill-third : 2 ^ 32 ≤ x2 → s ≡ faultBank b x2 c → gave (ended (answerOf x2) s q) t2 ≡ interpret logging (fillQuad (cpu b q) g a) t
+        fill-third h es =
+            stopped b s q x2 c t2 h es
+            ∙ sym (second-read ∙ bind-high (cpu b q) c x2 (fillWord (cpu b q) g c) (after-third (plusOf a 12) (x0 % 2 ^ 32) (x1 % 2 ^ 32)) t1 t2 (word-filled c x2 t1 t2 e2) h)
+
+        module _ (h2 : x2 < 2 ^ 32) (d : ℕ) (ed : d ≡ plusOf a 12) (x3 : ℕ) (t3 : Journaled) (e3 : gave (answerOf x3) t3 ≡ logging (read g Word d) t2) where
+          third-read : interpret logging (fillQuad (cpu b q) g a) t ≡ interpret logging (after-third d (x0 % 2 ^ 32) (x1 % 2 ^ 32) (x2 % 2 ^ 32)) t2
+          third-read =
+              second-read
+              ∙ rw ed (bind-low (cpu b q) c x2 (fillWord (cpu b q) g c) (after-third (plusOf a 12) (x0 % 2 ^ 32) (x1 % 2 ^ 32)) t1 t2 (word-filled c x2 t1 t2 e2) h2)
+
+          abbrev last : ℕ → Program (Out Cpu)
+          last z = done (filled (cpu b q) a (x0 % 2 ^ 32) (x1 % 2 ^ 32) (x2 % 2 ^ 32) z)
+
+          pub fill-fourth : 2 ^ 32 ≤ x3 → s ≡ faultBank b x3 d → gave (ended (answerOf x3) s q) t3 ≡ interpret logging (fillQuad (cpu b q) g a) t
+          fill-fourth h es =
+              stopped b s q x3 d t3 h es ∙ sym (third-read ∙ bind-high (cpu b q) d x3 (fillWord (cpu b q) g d) last t2 t3 (word-filled d x3 t2 t3 e3) h)
+
+          pub quad-filled : x3 < 2 ^ 32 → (v0 v1 v2 v3 p : ℕ) → v0 ≡ x0 % 2 ^ 32 → v1 ≡ x1 % 2 ^ 32 → v2 ≡ x2 % 2 ^ 32 → v3 ≡ x3 % 2 ^ 32 → p ≡ plusOf a 16 → s ≡ set b 4 p
+              → gave (ended (answerOf x3) s (set q (a / 16 % 16) (v0 ∷ v1 ∷ v2 ∷ v3 ∷ []))) t3 ≡ interpret logging (fillQuad (cpu b q) g a) t
+          unfolding interpret
+          quad-filled h v0 v1 v2 v3 p ev0 ev1 ev2 ev3 ep es =
+              rw (answer-low x3 h, es, ev0, ev1, ev2, ev3, ep)
+              (sym (third-read ∙ bind-low (cpu b q) d x3 (fillWord (cpu b q) g d) last t2 t3 (word-filled d x3 t2 t3 e3) h))
+
+-- ---- the quad-words from MSP up
+
+-- where the loop stands: what is left of the fill gives what the whole gives
+pub record Filling (g : Regime) (target : ℕ) (m₀ : Memory) (i₀ : List ℕ) (o₀ : List (List ℕ)) (q₀ : Cache) (b₀ : Bank) (m : Memory) (i : List ℕ) (o : List (List ℕ)) (q : Cache) (b : Bank) (x n : ℕ) : Type 0 where
+  pub low : x < 2 ^ 32
+  pub few : n ≤ 16
+  pub long : length m ≡ length m₀
+  pub rest : interpret logging (fill g target n (cpu b q)) (journaled m i o) ≡ interpret logging (fill g target 16 (cpu b₀ q₀)) (journaled m₀ i₀ o₀)
+
+module _ (g : Regime) (target : ℕ) (m₀ : Memory) (i₀ : List ℕ) (o₀ : List (List ℕ)) (q₀ : Cache) (b₀ : Bank) where
+  pub filling-begun : Filling g target m₀ i₀ o₀ q₀ b₀ m₀ i₀ o₀ q₀ b₀ 0 16
+  filling-begun = record { low = omega arith; few = omega arith; long = refl; rest = refl }
+
+  module _ (m : Memory) (i : List ℕ) (o : List (List ℕ)) (q : Cache) (b : Bank) (x n : ℕ) (f : Filling g target m₀ i₀ o₀ q₀ b₀ m i o q b x n) where
+    abbrev whole : Gave Journaled (Out Cpu)
+    whole = interpret logging (fill g target 16 (cpu b₀ q₀)) (journaled m₀ i₀ o₀)
+
+    pub filling-end : n ≤ 0 → gave (ended (answerOf x) b q) (journaled m i o) ≡ whole
+    unfolding fill interpret
+    filling-end h = let k : n ≡ 0 = omega arith in rw (answer-low x (f .low)) (rw k at (f .rest))
+
+    module _ (more : 0 < n) (y : Bool) (ey : y ≡ mayFill target b) where
+      down : n ≡ suc (n - 1)
+      down = omega arith
+
+      pub filling-enough : y ≡ false → gave (ended (answerOf x) b q) (journaled m i o) ≡ whole
+      unfolding fill interpret
+      filling-enough z = rw (answer-low x (f .low)) (go (n - 1) down ∙ f .rest)
+        where
+          go : (j : ℕ) → n ≡ suc j → gave (ok (cpu b q)) (journaled m i o) ≡ interpret logging (fill g target n (cpu b q)) (journaled m i o)
+          go j k = rw (k, sym ey ∙ z) refl
+
+      module _ (room : y ≡ true) (z : ℕ) (m₁ : Memory) (i₁ : List ℕ) (o₁ : List (List ℕ)) (q₁ : Cache) (b₁ : Bank)
+          (e : gave (ended (answerOf z) b₁ q₁) (journaled m₁ i₁ o₁) ≡ interpret logging (fillQuad (cpu b q) g (getD b 4 0)) (journaled m i o)) where
+        once : (j : ℕ) → n ≡ suc j → interpret logging (onward (λ d. fill g target j d) (ended (answerOf z) b₁ q₁)) (journaled m₁ i₁ o₁) ≡ interpret logging (fill g target n (cpu b q)) (journaled m i o)
+        unfolding fill
+        once j k = rw (k, sym ey ∙ room, bind (fillQuad (cpu b q) g (getD b 4 0)) (λ d. fill g target j d) (journaled m i o), ← e) refl
+
+        pub filling-more : z < 2 ^ 32 → length m₁ ≡ length m → Filling g target m₀ i₀ o₀ q₀ b₀ m₁ i₁ o₁ q₁ b₁ z (n - 1)
+        unfolding onward
+        filling-more h l =
+            record { low = h; few = omega (arith, f .few); long = l ∙ f .long; rest = rw (answer-low z h) at (once (n - 1) down) ∙ f .rest }
+
+        pub filling-fault : 2 ^ 32 ≤ z → gave (ended (answerOf z) b₁ q₁) (journaled m₁ i₁ o₁) ≡ whole
+        unfolding onward interpret
+        filling-fault h = rw (answer-high z h) (rw (answer-high z h) at (once (n - 1) down) ∙ f .rest)

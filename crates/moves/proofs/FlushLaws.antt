@@ -1,0 +1,122 @@
+-- The ways out of flushing a word, a quad-word, and the quad-words from MSP down.
+-- Assumes nothing.
+use Prim.Native.Nat.{ℕ, suc, _-_, _^_, _<_, _≤_}
+use mathlib.Core.Path.{_≡_, refl, sym, _∙_}
+use mathlib.Core.Bool.{Bool, true, false}
+use mathlib.Core.List.{List}
+use native.Mathlib.Omega.{arith}
+use lib.ListN.{getD, set, length}
+use Rattle.word.specs.declared.Width.the-variants.{Word}
+use Rattle.word.specs.Sums.{plusOf, minusOf}
+use Rattle.memory.specs.Answers.{Answer, answerOf}
+use Rattle.memory.specs.Bytes.{Memory}
+use Rattle.memory.proofs.AnswerLaws.{answer-low, answer-high}
+use Rattle.program.specs.Access.{write, Gave, gave}
+use Rattle.program.specs.Program.{Program, interpret}
+use Rattle.program.specs.Journal.{Journaled, journaled, logging}
+use Rattle.machine.specs.Registers.{Bank, msp}
+use Rattle.machine.specs.Cache.{Cache, cacheWord}
+use Rattle.machine.specs.Status.{Cpu, cpu, with, isUser, isVirtual, regime}
+use Rattle.handler.specs.Followed.{regimeFor}
+use Rattle.access.specs.Parts.{Out, ok, onward, _>>=_, done, replied}
+use Rattle.access.specs.Code.{ended}
+use Rattle.access.specs.Moves.{flushWord, flushQuad, mayFlush, flush}
+use Rattle.access.proofs.Bind.{bind, requested, bind-low, bind-high}
+use Rattle.moves.proofs.Stops.{faultBank, stopped}
+
+pub flushed-word : (b : Bank) (q : Cache) (a y : ℕ) (u v : Bool) (x : Answer) (t s : Journaled) → y ≡ cacheWord q a → u ≡ isUser b → v ≡ isVirtual b
+    → gave x s ≡ logging (write (regimeFor (getD b 9 0) u v) Word a y) t → gave (replied (cpu b q) a x) s ≡ interpret logging (flushWord (cpu b q) a) t
+unfolding flushWord
+flushed-word b q a y u v x t s ey eu ev e =
+    sym (requested (cpu b q) x t s (write (regime b) Word a (cacheWord q a)) a (e ∙ rw (ey, eu, ev) refl))
+
+-- ---- a quad-word: word by word
+
+module _ (b : Bank) (q : Cache) (a : ℕ) where
+  -- what follows the third word, the second, and the first
+  abbrev after-third : ℕ → ℕ → Program (Out Cpu)
+  after-third d _ = flushWord (cpu b q) d >>= (λ _. done (with (cpu b q) msp a))
+
+  abbrev after-second : ℕ → ℕ → ℕ → Program (Out Cpu)
+  after-second c d _ = flushWord (cpu b q) c >>= after-third d
+
+  abbrev after-first : ℕ → ℕ → ℕ → ℕ → Program (Out Cpu)
+  after-first y c d _ = flushWord (cpu b q) y >>= after-second c d
+
+  module _ (t : Journaled) (x0 : ℕ) (t0 : Journaled) (e0 : gave (replied (cpu b q) a (answerOf x0)) t0 ≡ interpret logging (flushWord (cpu b q) a) t) (s : Bank) where
+    pub quad-first : 2 ^ 32 ≤ x0 → s ≡ faultBank b x0 a → gave (ended (answerOf x0) s q) t0 ≡ interpret logging (flushQuad (cpu b q) a) t
+    unfolding flushQuad
+    quad-first h es = stopped b s q x0 a t0 h es ∙ sym (bind-high (cpu b q) a x0 (flushWord (cpu b q) a) (after-first (plusOf a 4) (plusOf a 8) (plusOf a 12)) t t0 e0 h)
+
+    module _ (h0 : x0 < 2 ^ 32) (y : ℕ) (ey : y ≡ plusOf a 4) (x1 : ℕ) (t1 : Journaled) (e1 : gave (replied (cpu b q) y (answerOf x1)) t1 ≡ interpret logging (flushWord (cpu b q) y) t0) where
+      first-gone : interpret logging (flushQuad (cpu b q) a) t ≡ interpret logging (after-first y (plusOf a 8) (plusOf a 12) x0) t0
+      unfolding flushQuad
+      first-gone = rw ey (bind-low (cpu b q) a x0 (flushWord (cpu b q) a) (after-first (plusOf a 4) (plusOf a 8) (plusOf a 12)) t t0 e0 h0)
+
+      pub quad-second : 2 ^ 32 ≤ x1 → s ≡ faultBank b x1 y → gave (ended (answerOf x1) s q) t1 ≡ interpret logging (flushQuad (cpu b q) a) t
+      quad-second h es = stopped b s q x1 y t1 h es ∙ sym (first-gone ∙ bind-high (cpu b q) y x1 (flushWord (cpu b q) y) (after-second (plusOf a 8) (plusOf a 12)) t0 t1 e1 h)
+
+      module _ (h1 : x1 < 2 ^ 32) (c : ℕ) (ec : c ≡ plusOf a 8) (x2 : ℕ) (t2 : Journaled) (e2 : gave (replied (cpu b q) c (answerOf x2)) t2 ≡ interpret logging (flushWord (cpu b q) c) t1) where
+        second-gone : interpret logging (flushQuad (cpu b q) a) t ≡ interpret logging (after-second c (plusOf a 12) x1) t1
+        second-gone = first-gone ∙ rw ec (bind-low (cpu b q) y x1 (flushWord (cpu b q) y) (after-second (plusOf a 8) (plusOf a 12)) t0 t1 e1 h1)
+
+        pub quad-third : 2 ^ 32 ≤ x2 → s ≡ faultBank b x2 c → gave (ended (answerOf x2) s q) t2 ≡ interpret logging (flushQuad (cpu b q) a) t
+        quad-third h es = stopped b s q x2 c t2 h es ∙ sym (second-gone ∙ bind-high (cpu b q) c x2 (flushWord (cpu b q) c) (after-third (plusOf a 12)) t1 t2 e2 h)
+
+        module _ (h2 : x2 < 2 ^ 32) (d : ℕ) (ed : d ≡ plusOf a 12) (x3 : ℕ) (t3 : Journaled) (e3 : gave (replied (cpu b q) d (answerOf x3)) t3 ≡ interpret logging (flushWord (cpu b q) d) t2) where
+          third-gone : interpret logging (flushQuad (cpu b q) a) t ≡ interpret logging (after-third d x2) t2
+          third-gone = second-gone ∙ rw ed (bind-low (cpu b q) c x2 (flushWord (cpu b q) c) (after-third (plusOf a 12)) t1 t2 e2 h2)
+
+          pub quad-fourth : 2 ^ 32 ≤ x3 → s ≡ faultBank b x3 d → gave (ended (answerOf x3) s q) t3 ≡ interpret logging (flushQuad (cpu b q) a) t
+          quad-fourth h es = stopped b s q x3 d t3 h es ∙ sym (third-gone ∙ bind-high (cpu b q) d x3 (flushWord (cpu b q) d) (λ _. done (with (cpu b q) msp a)) t2 t3 e3 h)
+
+          pub quad-flushed : x3 < 2 ^ 32 → s ≡ set b 4 a → gave (ended (answerOf x3) s q) t3 ≡ interpret logging (flushQuad (cpu b q) a) t
+          unfolding interpret
+          quad-flushed h es = rw (answer-low x3 h, es) (sym (third-gone ∙ bind-low (cpu b q) d x3 (flushWord (cpu b q) d) (λ _. done (with (cpu b q) msp a)) t2 t3 e3 h))
+
+-- ---- the quad-words from MSP down
+
+-- where the loop stands: what is left of the flush gives what the whole gives
+pub record Flushing (q : Cache) (all : Bool) (target : ℕ) (m₀ : Memory) (i₀ : List ℕ) (o₀ : List (List ℕ)) (b₀ : Bank) (m : Memory) (i : List ℕ) (o : List (List ℕ)) (b : Bank) (x n : ℕ) : Type 0 where
+  pub low : x < 2 ^ 32
+  pub few : n ≤ 16
+  pub long : length m ≡ length m₀
+  pub rest : interpret logging (flush all target n (cpu b q)) (journaled m i o) ≡ interpret logging (flush all target 16 (cpu b₀ q)) (journaled m₀ i₀ o₀)
+
+module _ (q : Cache) (all : Bool) (target : ℕ) (m₀ : Memory) (i₀ : List ℕ) (o₀ : List (List ℕ)) (b₀ : Bank) where
+  pub flushing-begun : Flushing q all target m₀ i₀ o₀ b₀ m₀ i₀ o₀ b₀ 0 16
+  flushing-begun = record { low = omega arith; few = omega arith; long = refl; rest = refl }
+
+  module _ (m : Memory) (i : List ℕ) (o : List (List ℕ)) (b : Bank) (x n : ℕ) (g : Flushing q all target m₀ i₀ o₀ b₀ m i o b x n) where
+    abbrev whole : Gave Journaled (Out Cpu)
+    whole = interpret logging (flush all target 16 (cpu b₀ q)) (journaled m₀ i₀ o₀)
+
+    pub flushing-end : n ≤ 0 → gave (ended (answerOf x) b q) (journaled m i o) ≡ whole
+    unfolding flush interpret
+    flushing-end h = let k : n ≡ 0 = omega arith in rw (answer-low x (g .low)) (rw k at (g .rest))
+
+    module _ (more : 0 < n) (y : Bool) (ey : y ≡ mayFlush all target b) where
+      down : n ≡ suc (n - 1)
+      down = omega arith
+
+      pub flushing-enough : y ≡ false → gave (ended (answerOf x) b q) (journaled m i o) ≡ whole
+      unfolding flush interpret
+      flushing-enough f = rw (answer-low x (g .low)) (go (n - 1) down ∙ g .rest)
+        where
+          go : (j : ℕ) → n ≡ suc j → gave (ok (cpu b q)) (journaled m i o) ≡ interpret logging (flush all target n (cpu b q)) (journaled m i o)
+          go j k = rw (k, sym ey ∙ f) refl
+
+      module _ (held : y ≡ true) (a : ℕ) (ea : a ≡ minusOf (getD b 4 0) 16) (z : ℕ) (m₁ : Memory) (i₁ : List ℕ) (o₁ : List (List ℕ)) (b₁ : Bank)
+          (e : gave (ended (answerOf z) b₁ q) (journaled m₁ i₁ o₁) ≡ interpret logging (flushQuad (cpu b q) a) (journaled m i o)) where
+        once : (j : ℕ) → n ≡ suc j → interpret logging (onward (λ d. flush all target j d) (ended (answerOf z) b₁ q)) (journaled m₁ i₁ o₁) ≡ interpret logging (flush all target n (cpu b q)) (journaled m i o)
+        unfolding flush
+        once j k = rw (k, sym ey ∙ held, ← ea, bind (flushQuad (cpu b q) a) (λ d. flush all target j d) (journaled m i o), ← e) refl
+
+        pub flushing-more : z < 2 ^ 32 → length m₁ ≡ length m → Flushing q all target m₀ i₀ o₀ b₀ m₁ i₁ o₁ b₁ z (n - 1)
+        unfolding onward
+        flushing-more h l =
+            record { low = h; few = omega (arith, g .few); long = l ∙ g .long; rest = rw (answer-low z h) at (once (n - 1) down) ∙ g .rest }
+
+        pub flushing-fault : 2 ^ 32 ≤ z → gave (ended (answerOf z) b₁ q) (journaled m₁ i₁ o₁) ≡ whole
+        unfolding onward interpret
+        flushing-fault h = rw (answer-high z h) (rw (answer-high z h) at (once (n - 1) down) ∙ g .rest)

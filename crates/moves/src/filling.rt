@@ -1,0 +1,97 @@
+// Filling: quad-words of memory to the stack cache, from MSP up, in a regime given by its numbers.
+use access::faults::set_fault;
+use handler::accesses::read;
+use memory::answers::low32;
+use word::Width;
+use word::sums::minus;
+use word::sums::plus;
+ghost use mathlib.Core.Path.{_≡_};
+ghost use Rattle.memory.specs.Answers.{answerOf};
+ghost use Rattle.program.specs.Access.{gave};
+ghost use Rattle.program.specs.Program.{interpret};
+ghost use Rattle.program.specs.Journal.{journaled, logging};
+ghost use Rattle.machine.specs.Status.{cpu};
+ghost use Rattle.handler.specs.Followed.{regimeFor};
+ghost use Rattle.access.specs.Code.{ended};
+ghost use Rattle.access.specs.Moves.{fillQuad, mayFill, fill as fillOf};
+
+// The quad-word at a, and MSP up past it; one whose read faults changes no word of the cache.
+fn fill_quad(
+    m: &mut [u8],
+    places: &mut [u32; 201],
+    words: &mut [[u8; 4]; 200],
+    q: &mut [[u32; 4]; 16],
+    r: &mut [u32; 17],
+    stb: u32,
+    user: bool,
+    translated: bool,
+    a: u32,
+) -> u64
+    ensures { λ x. ⌜ gave (ended (answerOf x) (now (r .exit)) (now (q .exit))) (journaled (now (m .exit)) (now (places .exit)) (now (words .exit))) ≡ interpret logging (fillQuad (cpu (now (r .entry)) (now (q .entry))) (regimeFor stb user translated) a) (journaled (now (m .entry)) (now (places .entry)) (now (words .entry))) ⌝ }
+{
+    let x0 = read(m, places, words, Width::Word, stb, user, translated, a);
+    if 0x1_0000_0000 <= x0 {
+        set_fault(r, x0, a);
+        return x0;
+    }
+    let b = plus(a, 4);
+    let x1 = read(m, places, words, Width::Word, stb, user, translated, b);
+    if 0x1_0000_0000 <= x1 {
+        set_fault(r, x1, b);
+        return x1;
+    }
+    let c = plus(a, 8);
+    let x2 = read(m, places, words, Width::Word, stb, user, translated, c);
+    if 0x1_0000_0000 <= x2 {
+        set_fault(r, x2, c);
+        return x2;
+    }
+    let d = plus(a, 12);
+    let x3 = read(m, places, words, Width::Word, stb, user, translated, d);
+    if 0x1_0000_0000 <= x3 {
+        set_fault(r, x3, d);
+        return x3;
+    }
+    let i = (a / 16 % 16) as usize;
+    q[i] = [low32(x0), low32(x1), low32(x2), low32(x3)];
+    r[4] = plus(a, 16);
+    x3
+}
+
+// Whether MSP is below the target and the cache is not full.
+fn may_fill(r: &[u32; 17], target: u32) -> bool
+    ensures { λ x. ⌜ x ≡ mayFill target (now (r .entry)) ⌝ }
+{
+    (r[4] < target) & (minus(r[4], r[8]) < 256)
+}
+
+// At most the sixteen quad-words of the cache, left at the first fault with the last MSP reached.
+pub fn fill(
+    m: &mut [u8],
+    places: &mut [u32; 201],
+    words: &mut [[u8; 4]; 200],
+    q: &mut [[u32; 4]; 16],
+    r: &mut [u32; 17],
+    stb: u32,
+    user: bool,
+    translated: bool,
+    target: u32,
+) -> u64
+    ensures { λ x. ⌜ gave (ended (answerOf x) (now (r .exit)) (now (q .exit))) (journaled (now (m .exit)) (now (places .exit)) (now (words .exit))) ≡ interpret logging (fillOf (regimeFor stb user translated) target 16 (cpu (now (r .entry)) (now (q .entry)))) (journaled (now (m .entry)) (now (places .entry)) (now (words .entry))) ⌝ }
+{
+    let mut x: u64 = 0;
+    let mut n: u32 = 16;
+    while 0 < n {
+        if may_fill(r, target) {
+            let a = r[4];
+            x = fill_quad(m, places, words, q, r, stb, user, translated, a);
+            if 0x1_0000_0000 <= x {
+                break;
+            }
+            n = n - 1;
+        } else {
+            break;
+        }
+    }
+    x
+}
