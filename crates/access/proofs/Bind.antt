@@ -17,7 +17,7 @@ use Rattle.machine.specs.Registers.{Bank}
 use Rattle.machine.specs.Cache.{Cache}
 use Rattle.machine.specs.Status.{Cpu, cpu, regime, kernelRegime}
 use Rattle.mmu.specs.declared.Regime.{Regime}
-use Rattle.access.specs.Parts.{Out, ok, stop, onward, _>>=_, faulted, replied, request, plainReplied, plainRequest, frameReplied, frameRequest}
+use Rattle.access.specs.Parts.{Out, ok, stop, onward, _>>=_, faulted, replied, request, parcelReplied, parcelRequest, frameReplied, frameRequest}
 use Rattle.access.specs.Data.{readFrame, writeFrame, checkStore}
 use Rattle.access.specs.Text.{fetchParcel}
 
@@ -32,9 +32,9 @@ module _ (c : Cpu) (x : Answer) (t u : Journaled) where
   unfolding request interpret
   requested q a e = ap (λ (g : Gave Journaled Answer). gave (replied c a (g .out)) (g .world)) (sym e)
 
-  pub parcel-fetched : (a : ℕ) → gave x u ≡ logging (fetch (regime (c .bank)) a) t → interpret logging (fetchParcel c a) t ≡ gave (plainReplied c x) u
-  unfolding fetchParcel plainRequest interpret
-  parcel-fetched a e = ap (λ (g : Gave Journaled Answer). gave (plainReplied c (g .out)) (g .world)) (sym e)
+  pub parcel-fetched : (a : ℕ) → gave x u ≡ logging (fetch (regime (c .bank)) a) t → interpret logging (fetchParcel c a) t ≡ gave (parcelReplied c x) u
+  unfolding fetchParcel parcelRequest interpret
+  parcel-fetched a e = ap (λ (g : Gave Journaled Answer). gave (parcelReplied c (g .out)) (g .world)) (sym e)
 
   pub frame-loaded : (a : ℕ) → gave x u ≡ logging (read (kernelRegime (c .bank)) Word a) t → interpret logging (readFrame c a) t ≡ gave (frameReplied c x) u
   unfolding readFrame frameRequest interpret

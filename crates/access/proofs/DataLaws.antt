@@ -20,7 +20,7 @@ use Rattle.machine.specs.Registers.{Bank}
 use Rattle.machine.specs.Cache.{Cache, cacheRead, cacheWrite}
 use Rattle.machine.specs.Status.{Cpu, cpu, cached, isLittle, isUser, isVirtual, regime, kernelRegime}
 use Rattle.handler.specs.Followed.{regimeFor, fitsWidth, onlyMemory}
-use Rattle.access.specs.Parts.{Out, ok, stop, onward, _>>=_, done, replied, request, plainReplied, plainRequest, frameReplied, frameRequest}
+use Rattle.access.specs.Parts.{Out, ok, stop, onward, _>>=_, done, replied, request, parcelReplied, parcelRequest, frameReplied, frameRequest}
 use Rattle.access.specs.Data.{isAligned, readCached, readMemory, readData, writeCached, writeMemory, writeData, readFrame, writeFrame, checkStore}
 use Rattle.access.specs.Code.{wrote}
 

@@ -20,7 +20,7 @@ use Rattle.machine.specs.Registers.{pc}
 use Rattle.machine.specs.Status.{Cpu, reg, regime}
 use Rattle.access.specs.declared.text.Operands.{Operands}
 use Rattle.access.specs.declared.text.Fetched.{Fetched}
-use Rattle.access.specs.Parts.{Out, ok, stop, onward, _>>=_, done, plainReplied}
+use Rattle.access.specs.Parts.{Out, ok, stop, onward, _>>=_, done, parcelReplied}
 use Rattle.access.specs.Text.{fetchParcel, fetchParcels, following, fetchAfter, fetchPrefixed, fetchText}
 use Rattle.access.specs.Code.{fetchTwo, joinedOut, listed, operandsOut, textOut}
 use Rattle.access.proofs.Bind.{bind, parcel-fetched}

@@ -13,7 +13,7 @@ use Rattle.program.specs.Access.{fetch, Gave, gave}
 use Rattle.program.specs.Program.{Program, interpret}
 use Rattle.program.specs.Journal.{Journaled, logging}
 use Rattle.machine.specs.Status.{Cpu, cpu, regime}
-use Rattle.access.specs.Parts.{Out, ok, stop, onward, _>>=_, done, plainReplied}
+use Rattle.access.specs.Parts.{Out, ok, stop, onward, _>>=_, done, parcelReplied}
 use Rattle.access.specs.Text.{fetchParcel, fetchParcels, fetchAfter, fetchPrefixed, fetchText, following}
 use Rattle.access.specs.Code.{fetchTwo, joinedOut}
 use Rattle.access.proofs.Bind.{bind, parcel-fetched}
@@ -46,7 +46,7 @@ halves v ps = v / 65536 ∷ v % 65536 ∷ ps
 module _ (c : Cpu) where
   one-parcel : {A : Type 0} (f : ℕ → Program (Out A)) (a : ℕ) (t : Journaled)
       → interpret logging (fetchParcel c a >>= f) t
-      ≡ interpret logging (onward f (plainReplied c (logging (fetch (regime (c .bank)) a) t .out))) (logging (fetch (regime (c .bank)) a) t .world)
+      ≡ interpret logging (onward f (parcelReplied c (logging (fetch (regime (c .bank)) a) t .out))) (logging (fetch (regime (c .bank)) a) t .world)
   one-parcel {A} f a t =
       bind (fetchParcel c a) f t
       ∙ ap (λ (g : Gave Journaled (Out ℕ)). interpret logging (onward f (g .out)) (g .world))
@@ -78,8 +78,8 @@ module _ (c : Cpu) where
     third v y (stop e d) w = refl
 
     second : (v : ℕ) (r : Answer) (w : Journaled)
-        → interpret logging (onward (λ ps. done (v % 2 ^ 16 ∷ ps)) (interpret logging (onward (λ p. fetchParcels c (plusOf (plusOf a 2) 2) n >>= (λ ps. done (p ∷ ps))) (plainReplied c r)) w .out)) (interpret logging (onward (λ p. fetchParcels c (plusOf (plusOf a 2) 2) n >>= (λ ps. done (p ∷ ps))) (plainReplied c r)) w .world)
-        ≡ interpret logging (onward (λ v. fetchParcels c (plusOf a 4) n >>= (λ ps. done (halves v ps))) (interpret logging (onward (λ y. done (joined (v % 2 ^ 16) y)) (plainReplied c r)) w .out)) (interpret logging (onward (λ y. done (joined (v % 2 ^ 16) y)) (plainReplied c r)) w .world)
+        → interpret logging (onward (λ ps. done (v % 2 ^ 16 ∷ ps)) (interpret logging (onward (λ p. fetchParcels c (plusOf (plusOf a 2) 2) n >>= (λ ps. done (p ∷ ps))) (parcelReplied c r)) w .out)) (interpret logging (onward (λ p. fetchParcels c (plusOf (plusOf a 2) 2) n >>= (λ ps. done (p ∷ ps))) (parcelReplied c r)) w .world)
+        ≡ interpret logging (onward (λ v. fetchParcels c (plusOf a 4) n >>= (λ ps. done (halves v ps))) (interpret logging (onward (λ y. done (joined (v % 2 ^ 16) y)) (parcelReplied c r)) w .out)) (interpret logging (onward (λ y. done (joined (v % 2 ^ 16) y)) (parcelReplied c r)) w .world)
     unfolding onward interpret
     second v (bad e) w = refl
     second v (got y) w =
@@ -87,8 +87,8 @@ module _ (c : Cpu) where
         (third v y (interpret logging (fetchParcels c (plusOf a 4) n) w .out) (interpret logging (fetchParcels c (plusOf a 4) n) w .world))
 
     first : (r : Answer) (u : Journaled)
-        → interpret logging (onward (λ p. fetchParcels c (plusOf a 2) (suc n) >>= (λ ps. done (p ∷ ps))) (plainReplied c r)) u
-        ≡ interpret logging (onward (λ v. fetchParcels c (plusOf a 4) n >>= (λ ps. done (halves v ps))) (interpret logging (onward (λ x. fetchParcel c (plusOf a 2) >>= (λ y. done (joined x y))) (plainReplied c r)) u .out)) (interpret logging (onward (λ x. fetchParcel c (plusOf a 2) >>= (λ y. done (joined x y))) (plainReplied c r)) u .world)
+        → interpret logging (onward (λ p. fetchParcels c (plusOf a 2) (suc n) >>= (λ ps. done (p ∷ ps))) (parcelReplied c r)) u
+        ≡ interpret logging (onward (λ v. fetchParcels c (plusOf a 4) n >>= (λ ps. done (halves v ps))) (interpret logging (onward (λ x. fetchParcel c (plusOf a 2) >>= (λ y. done (joined x y))) (parcelReplied c r)) u .out)) (interpret logging (onward (λ x. fetchParcel c (plusOf a 2) >>= (λ y. done (joined x y))) (parcelReplied c r)) u .world)
     unfolding onward interpret fetchParcels
     first (bad e) u = refl
     first (got v) u =

@@ -38,13 +38,13 @@ unfoldable pub request : Cpu → Access → ℕ → Program (Out ℕ)
 request c q a = ask q (λ r. ret (replied c a r))
 
 -- a parcel is sixteen bits
-abbrev pub plainReplied : Cpu → Answer → Out ℕ
-plainReplied c (got v) = ok (v % 2 ^ 16)
-plainReplied c (bad e) = stop e c
+abbrev pub parcelReplied : Cpu → Answer → Out ℕ
+parcelReplied c (got v) = ok (v % 2 ^ 16)
+parcelReplied c (bad e) = stop e c
 
 -- an access whose fault is not saved: text
-unfoldable pub plainRequest : Cpu → Access → Program (Out ℕ)
-plainRequest c q = ask q (λ r. ret (plainReplied c r))
+unfoldable pub parcelRequest : Cpu → Access → Program (Out ℕ)
+parcelRequest c q = ask q (λ r. ret (parcelReplied c r))
 
 -- 1.11.1: "A memory fault .. when attempting to read or write the interrupt stack .. from the vector table" resets: no
 -- exception has the number 0

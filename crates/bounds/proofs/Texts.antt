@@ -16,7 +16,7 @@ use Rattle.memory.specs.Answers.{Answer, got, bad}
 use Rattle.program.specs.Access.{fetch}
 use Rattle.machine.specs.Registers.{pc}
 use Rattle.machine.specs.Status.{Cpu, reg, regime}
-use Rattle.access.specs.Parts.{plainRequest, plainReplied}
+use Rattle.access.specs.Parts.{parcelRequest, parcelReplied}
 use Rattle.access.specs.Text.{fetchParcel, fetchParcels, following, fetchAfter, fetchPrefixed, fetchText}
 use Rattle.bounds.proofs.Rules.{Rules, Answers, Ends, Part, bind, more, gives, either}
 
@@ -52,10 +52,10 @@ text-fits ps h =
 
 module _ (k : Rules) where
   fetch-parcel : (c : Cpu) (a : ℕ) → k .Holds c → Part k (λ p. p < 2 ^ 16) 1 (fetchParcel c a)
-  unfolding fetchParcel plainRequest
+  unfolding fetchParcel parcelRequest
   fetch-parcel c a h = record { within = (k .asks c (fetch (regime (c .bank)) a) h refl, go) }
     where
-      go : (r : Answer) → Answers k (fetch (regime (c .bank)) a) r → Ends k (λ p. p < 2 ^ 16) (plainReplied c r)
+      go : (r : Answer) → Answers k (fetch (regime (c .bank)) a) r → Ends k (λ p. p < 2 ^ 16) (parcelReplied c r)
       go (got x) d = mod-lt x (pow-pos 16)
       go (bad e) d = h
 

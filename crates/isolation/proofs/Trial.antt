@@ -11,7 +11,7 @@ use Rattle.program.specs.Access.{touch, follow, access}
 use Rattle.program.specs.Program.{interpret, after}
 use Rattle.machine.specs.Registers.{goodBank}
 use Rattle.access.specs.Data.{writeMemory, writeData}
-use Rattle.access.specs.Parts.{onward, _>>=_, request, plainRequest}
+use Rattle.access.specs.Parts.{onward, _>>=_, request, parcelRequest}
 use Rattle.access.specs.Text.{fetchParcel, fetchParcels, fetchAfter, fetchPrefixed, fetchText}
 use Rattle.exec.specs.Operands.{located, locate, readPlace, readOperand, writePlace, checkRegisters}
 use Rattle.exec.specs.Dyadic.{move, perform, dyadic}
@@ -34,5 +34,5 @@ storedFive h e =
 
 -- with paged entries the step has also set Referenced and Modified in the entry at 0x2000
 trial : (storedFive 1 (confined oneStep (nonpagedBoard 1)) && storedFive 1 (confined oneStep (pagedBoard 1)) && eqb (byteAt (confined oneStep (pagedBoard 1) .left .memory) 8195) 0x1F) ≡ true
-unfolding run refusal goodBank advance confinedTurn confinedAttempt tryActed fetchInstruction counted executeNormal execute move perform dyadic located locate readPlace readOperand writePlace checkRegisters fetchParcel fetchParcels fetchAfter fetchPrefixed fetchText onward _>>=_ request plainRequest writeMemory writeData interpret after touch follow access segmentOf segment nonpagedOf pageOf walkFrom walk route marked fresh recorded decodeShort decodeBare decodeOf load storeAnswer storeMemory tablePage userPage emptyPage hiddenPage
+unfolding run refusal goodBank advance confinedTurn confinedAttempt tryActed fetchInstruction counted executeNormal execute move perform dyadic located locate readPlace readOperand writePlace checkRegisters fetchParcel fetchParcels fetchAfter fetchPrefixed fetchText onward _>>=_ request parcelRequest writeMemory writeData interpret after touch follow access segmentOf segment nonpagedOf pageOf walkFrom walk route marked fresh recorded decodeShort decodeBare decodeOf load storeAnswer storeMemory tablePage userPage emptyPage hiddenPage
 trial = refl

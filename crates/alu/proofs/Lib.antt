@@ -1,0 +1,5 @@
+pub mod Laws
+pub mod ModeLaws
+pub mod PswLaws
+pub mod ResultLaws
+pub mod TimerLaws

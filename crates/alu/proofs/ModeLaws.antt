@@ -1,0 +1,25 @@
+-- Laws of operands by their modes.
+-- Assumes nothing.
+use mathlib.Core.Path.{_≡_, refl, sym, ap, _∙_}
+use mathlib.Core.Bool.{Bool, true, false}
+use Prim.Native.Nat.{ℕ, _*_, _/_, _^_}
+use Rattle.word.specs.declared.Width.{Width}
+use Rattle.word.specs.Sums.{plusOf}
+use Rattle.word.specs.Widths.{bitsOf, signExtendOf}
+use Rattle.bits.specs.Bits.{bitOf}
+use Rattle.isa.specs.declared.Mode.{Mode}
+use Rattle.isa.specs.declared.Wide.{Wide}
+use Rattle.isa.specs.declared.Wide.the-variants.{Three, Five}
+use Rattle.exec.specs.Operands.{widthOf, isSigned, expanded}
+use Rattle.alu.specs.Modes.{absoluteOn}
+
+pub expanded-signed : (m : Mode) (w : Width) (x r : ℕ) (t : Bool) → t ≡ isSigned m → t ≡ true → w ≡ widthOf m
+    → r ≡ signExtendOf (bitsOf w) x → r ≡ expanded m x
+expanded-signed m w x r t e h f g = g ∙ simp (sym e, h, f)
+
+pub in-region : (k p v r : ℕ) (w : Wide) (t : Bool) → w ≡ Three → t ≡ bitOf k 17 → t ≡ true
+    → r ≡ plusOf (p / 2 ^ 29 * 2 ^ 29) v → r ≡ absoluteOn k p w v
+in-region k p v r w t e f h g = g ∙ simp (e, sym f, h)
+
+pub in-low : (k p v : ℕ) (w : Wide) (t : Bool) → w ≡ Three → t ≡ bitOf k 17 → t ≡ false → v ≡ absoluteOn k p w v
+in-low k p v w t e f h = simp (e, sym f, h)

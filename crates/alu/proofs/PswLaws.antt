@@ -1,0 +1,30 @@
+-- Laws of the PSW's bits.
+-- Assumes nothing.
+use mathlib.Core.Path.{_≡_, refl, sym, ap, _∙_}
+use mathlib.Core.Bool.{Bool, true, false, not}
+use Prim.Native.Nat.{ℕ, _+_, _-_, _*_, _/_, _%_, _^_, _≤_, _<_}
+use native.Mathlib.Nat.{one-mul, zero-mul, add-mul, mod-lt}
+use native.Mathlib.Omega.{arith}
+use Rattle.bits.specs.Bits.{bitOf, setOf}
+use Rattle.bits.proofs.Laws.{shl-one}
+use Rattle.exec.specs.Alu.{digit, withBitAs, flagBit}
+use Rattle.alu.specs.Status.{testedOf}
+
+-- the bit set is at least what is taken off
+taken-at : (x n : ℕ) (b : Bool) → n < 32 → digit (not b) * 2 ^ n % 2 ^ 32 ≤ setOf x n
+taken-at x n true h = rw (zero-mul (2 ^ n)) (omega arith)
+taken-at x n false h = rw (shl-one n h, add-mul) (omega (arith, one-mul (2 ^ n)))
+
+laid-at : (x n : ℕ) (b : Bool) → n < 32 → setOf x n - digit (not b) * 2 ^ n % 2 ^ 32 ≡ withBitAs n b x
+laid-at x n true h = rw (zero-mul (2 ^ n), add-mul) (omega arith)
+laid-at x n false h = rw (shl-one n h, add-mul) (omega (arith, one-mul (2 ^ n), zero-mul (2 ^ n)))
+
+pub taken-fits : (x n d y : ℕ) (b : Bool) → d ≡ digit (not b) → y ≡ setOf x (n % 32) → d * 2 ^ (n % 32) % 2 ^ 32 ≤ y
+taken-fits x n d y b e f = rw (e, f) (taken-at x (n % 32) b (omega arith))
+
+pub bit-laid : (x n d y : ℕ) (b : Bool) → d ≡ digit (not b) → y ≡ setOf x (n % 32)
+    → y - d * 2 ^ (n % 32) % 2 ^ 32 ≡ withBitAs (n % 32) b x
+bit-laid x n d y b e f = rw (e, f) (laid-at x (n % 32) b (omega arith))
+
+pub bit-tested : (x n w r : ℕ) (p : Bool) → w ≡ withBitAs n false x → p ≡ bitOf x n → r ≡ withBitAs flagBit p w → r ≡ testedOf x n
+bit-tested x n w r p e f g = rw (g, e, f)

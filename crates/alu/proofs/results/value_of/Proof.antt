@@ -1,0 +1,13 @@
+use Rattle.alu.proofs.ResultLaws.{value-unpacked}
+use borrow.Author.Needs.{needs}
+use Rattle.alu.proofs.results.value_of.Statement.{statement}
+use Rattle.alu.proofs.results.value_of.Tie as tie
+
+cast-result : tie.Need-cast-result
+cast-result c = search needs
+
+returns : tie.Need-returns
+returns c = search (needs, value-unpacked)
+
+pub value-of-spec : {M : Type 1} → statement M
+value-of-spec = tie.close (tie.spec cast-result returns)

@@ -1,0 +1,7 @@
+pub mod EventLaws
+pub mod FlowLaws
+pub mod FrameLaws
+pub mod Laws
+pub mod RegisterLaws
+pub mod TakenLaws
+pub mod TimerLaws

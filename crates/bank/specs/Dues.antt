@@ -1,0 +1,43 @@
+-- What is due, by document 01's number, and when nothing can be.
+-- Assumes nothing.
+use Prim.Native.Nat.{ℕ, _+_, _-_, _*_}
+use mathlib.Core.Bool.{Bool, true, false, cond, not, _&&_}
+use lib.Dec.{eqb, ltb}
+use Rattle.machine.specs.Registers.{Bank, traceDue, timer1Due, timer2Due, nmiTaken}
+use Rattle.machine.specs.Status.{Cpu, with}
+use Rattle.step.specs.Events.{Due, none, interrupt, timer1, timer2, trace, isDue}
+
+-- what a number stands for
+abbrev pub dueFrom : ℕ → Due
+dueFrom k =
+    cond (eqb k 0) none
+    (cond (eqb k 0x2) trace
+    (cond (eqb k 0x17) timer1
+    (cond (eqb k 0x18) timer2 (interrupt (k - 0x10)))))
+
+-- no interrupt is asked for, and no timer or trace is due
+abbrev pub quietOf : ℕ → Bank → Bool
+quietOf level b = ltb 6 level && not (isDue b timer1Due) && not (isDue b timer2Due) && not (isDue b traceDue)
+
+-- what is taken is no longer due, and input 0 waits
+abbrev pub takenOf : Due → Cpu → Cpu
+takenOf none c = c
+takenOf (interrupt n) c = cond (eqb n 0) (with c nmiTaken 1) c
+takenOf timer1 c = with c timer1Due 0
+takenOf timer2 c = with c timer2Due 0
+takenOf trace c = with c traceDue 0
+
+-- Table 1-14: where the vector is
+abbrev pub vectorOf : Due → ℕ
+vectorOf none = 0
+vectorOf (interrupt n) = 16 + 4 * n
+vectorOf timer1 = 44
+vectorOf timer2 = 48
+vectorOf trace = 4
+
+abbrev pub isTrace : Due → Bool
+isTrace none = false
+isTrace (interrupt n) = false
+isTrace timer1 = false
+isTrace timer2 = false
+isTrace trace = true

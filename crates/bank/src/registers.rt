@@ -1,0 +1,71 @@
+// Registers written under a CPU prefix (1.7, Table 1-24).
+use machine::registers::kept;
+use machine::status::csp;
+ghost use mathlib.Core.Path.{_≡_};
+ghost use lib.ListN.{length};
+ghost use Rattle.machine.specs.Cache.{Cache};
+ghost use Rattle.machine.specs.Registers.{sp, isp, msp};
+ghost use Rattle.machine.specs.Status.{cpu, with};
+ghost use Rattle.exec.specs.Operands.{shadowed as shadowedOf, writeRegister};
+
+// Says how long a bank is, which is not known of a lent one; the answer is not used.
+fn bank_size(b: [u32; 17]) -> u32
+    ensures { λ r. ⌜ length b ≡ 17 ⌝ }
+{
+    17
+}
+
+// The word at a place of the bank; a place past its end takes none.
+pub fn put(b: &mut [u32; 17], k: u32, v: u32)
+    ensures { λ r. ⌜ ((q : Cache) → cpu (now (b .exit)) q ≡ with (cpu (now (b .entry)) q) k v) ⌝ }
+{
+    if k < 17 {
+        let i = k as usize;
+        b[i] = v;
+    } else {
+        let whole = *b;
+        let size = bank_size(whole);
+    }
+}
+
+// SHAD follows the current stack pointer.
+fn shadowed(b: &mut [u32; 17], k: u32, v: u32)
+    ensures { λ r. ⌜ ((q : Cache) → cpu (now (b .exit)) q ≡ shadowedOf (cpu (now (b .entry)) q) k v) ⌝ }
+{
+    if k == csp(b) {
+        b[7] = v;
+    }
+}
+
+// SP, and MSP with it.
+fn write_sp(b: &mut [u32; 17], v: u32)
+    ensures { λ r. ⌜ ((q : Cache) → cpu (now (b .exit)) q ≡ shadowedOf (with (with (cpu (now (b .entry)) q) sp v) msp v) sp v) ⌝ }
+{
+    b[8] = v;
+    b[4] = v;
+    shadowed(b, 8, v);
+}
+
+fn write_isp(b: &mut [u32; 17], v: u32)
+    ensures { λ r. ⌜ ((q : Cache) → cpu (now (b .exit)) q ≡ shadowedOf (with (cpu (now (b .entry)) q) isp v) isp v) ⌝ }
+{
+    b[3] = v;
+    shadowed(b, 3, v);
+}
+
+// The register at place k, without its reserved bits: ID takes none.
+pub fn write_register(b: &mut [u32; 17], k: u32, v: u32)
+    ensures { λ r. ⌜ ((q : Cache) → cpu (now (b .exit)) q ≡ writeRegister (cpu (now (b .entry)) q) k v) ⌝ }
+{
+    if k != 2 {
+        if k == 8 {
+            write_sp(b, kept(8, v));
+        } else {
+            if k == 3 {
+                write_isp(b, kept(3, v));
+            } else {
+                put(b, k, kept(k, v));
+            }
+        }
+    }
+}

@@ -1,0 +1,59 @@
+// Both timers, counted after a step.
+use alu::timers::counts1;
+use alu::timers::counts2;
+use bits::bit;
+use word::sums::plus;
+ghost use mathlib.Core.Path.{_≡_};
+ghost use Rattle.machine.specs.Registers.{timer1, timer2, timer1Due, timer2Due};
+ghost use Rattle.machine.specs.Cache.{Cache};
+ghost use Rattle.machine.specs.Status.{cpu};
+ghost use Rattle.step.specs.Timers.{ticked, counted as countedOf};
+ghost use Rattle.bank.specs.Counts.{firstCounted, secondCounted};
+
+// Timer1 by one; on says whether its interrupt is.
+fn tick1(b: &mut [u32; 17], on: bool)
+    ensures { λ r. ⌜ ((q : Cache) → cpu (now (b .exit)) q ≡ ticked (cpu (now (b .entry)) q) timer1 timer1Due on) ⌝ }
+{
+    let n = plus(b[10], 1);
+    b[10] = n;
+    if (n == 0) & on {
+        b[14] = 1;
+    }
+}
+
+// Timer2 by one.
+fn tick2(b: &mut [u32; 17], on: bool)
+    ensures { λ r. ⌜ ((q : Cache) → cpu (now (b .exit)) q ≡ ticked (cpu (now (b .entry)) q) timer2 timer2Due on) ⌝ }
+{
+    let n = plus(b[11], 1);
+    b[11] = n;
+    if (n == 0) & on {
+        b[15] = 1;
+    }
+}
+
+// Timer1, if it counts the step.
+fn count1(b: &mut [u32; 17], config: u32, kernel: bool, completed: bool)
+    ensures { λ r. ⌜ ((q : Cache) → cpu (now (b .exit)) q ≡ firstCounted config kernel completed (cpu (now (b .entry)) q)) ⌝ }
+{
+    if counts1(config, kernel, completed) {
+        tick1(b, bit(config, 24));
+    }
+}
+
+// Timer2, if it counts the step.
+fn count2(b: &mut [u32; 17], config: u32, kernel: bool, completed: bool)
+    ensures { λ r. ⌜ ((q : Cache) → cpu (now (b .exit)) q ≡ secondCounted config kernel completed (cpu (now (b .entry)) q)) ⌝ }
+{
+    if counts2(config, kernel, completed) {
+        tick2(b, bit(config, 31));
+    }
+}
+
+// Both, by the CONFIG and the level that the step began with.
+pub fn counted(b: &mut [u32; 17], config: u32, kernel: bool, completed: bool)
+    ensures { λ r. ⌜ ((q : Cache) → cpu (now (b .exit)) q ≡ countedOf config kernel completed (cpu (now (b .entry)) q)) ⌝ }
+{
+    count1(b, config, kernel, completed);
+    count2(b, config, kernel, completed);
+}

@@ -1,0 +1,179 @@
+// What each row does, without its encoding.
+use crate::ShortForm;
+use exec::Monadic;
+use exec::Niladic;
+use exec::Operation;
+use exec::Relation;
+use exec::Task;
+use isa::DyadicRow;
+use isa::Mode;
+use isa::MonadicMode;
+use isa::MonadicRow;
+use isa::ShortRow;
+ghost use mathlib.Core.Path.{_≡_};
+ghost use Rattle.exec.specs.Execute.{shortNormal, taskOf, monadicOf};
+ghost use Rattle.rows.specs.Rows.{formed};
+
+// What a one-parcel row does.
+pub fn short_form(row: ShortRow) -> ShortForm
+    ensures { λ r. ⌜ formed r ≡ shortNormal row ⌝ }
+{
+    match row {
+        ShortRow::Kcall => ShortForm::One(Monadic::Kcall, MonadicMode::WordImmediate),
+        ShortRow::Call => ShortForm::One(Monadic::Call, MonadicMode::FlowRelative),
+        ShortRow::Jmp => ShortForm::One(Monadic::Jmp, MonadicMode::FlowRelative),
+        ShortRow::Jmpfn => ShortForm::One(Monadic::JmpFalse, MonadicMode::FlowRelative),
+        ShortRow::Jmpfy => ShortForm::One(Monadic::JmpFalse, MonadicMode::FlowRelative),
+        ShortRow::Jmptn => ShortForm::One(Monadic::JmpTrue, MonadicMode::FlowRelative),
+        ShortRow::Jmpty => ShortForm::One(Monadic::JmpTrue, MonadicMode::FlowRelative),
+        ShortRow::MovWaiStk => ShortForm::Two(Task::Move, Mode::Immediate, Mode::StackWord),
+        ShortRow::Add3WaiStk => ShortForm::Two(
+            Task::Accumulate(Operation::Add),
+            Mode::Immediate,
+            Mode::StackWord,
+        ),
+        ShortRow::And3ImmStk => ShortForm::Two(
+            Task::Accumulate(Operation::And),
+            Mode::Immediate,
+            Mode::StackWord,
+        ),
+        ShortRow::AndStkStk => ShortForm::Two(
+            Task::Compute(Operation::And),
+            Mode::StackWord,
+            Mode::StackWord,
+        ),
+        ShortRow::CmpeqImmStk => ShortForm::Two(
+            Task::Compare(Relation::Equal),
+            Mode::Immediate,
+            Mode::StackWord,
+        ),
+        ShortRow::CmpgtStkStk => ShortForm::Two(
+            Task::Compare(Relation::Greater),
+            Mode::StackWord,
+            Mode::StackWord,
+        ),
+        ShortRow::CmpgtImmStk => ShortForm::Two(
+            Task::Compare(Relation::Greater),
+            Mode::Immediate,
+            Mode::StackWord,
+        ),
+        ShortRow::CmpeqStkStk => ShortForm::Two(
+            Task::Compare(Relation::Equal),
+            Mode::StackWord,
+            Mode::StackWord,
+        ),
+        ShortRow::AddImmStk => ShortForm::Two(
+            Task::Compute(Operation::Add),
+            Mode::Immediate,
+            Mode::StackWord,
+        ),
+        ShortRow::Add3ImmStk => ShortForm::Two(
+            Task::Accumulate(Operation::Add),
+            Mode::Immediate,
+            Mode::StackWord,
+        ),
+        ShortRow::AddStkStk => ShortForm::Two(
+            Task::Compute(Operation::Add),
+            Mode::StackWord,
+            Mode::StackWord,
+        ),
+        ShortRow::Add3StkStk => ShortForm::Two(
+            Task::Accumulate(Operation::Add),
+            Mode::StackWord,
+            Mode::StackWord,
+        ),
+        ShortRow::MovStkStk => ShortForm::Two(Task::Move, Mode::StackWord, Mode::StackWord),
+        ShortRow::MovIstkStk => ShortForm::Two(Task::Move, Mode::IndirectWord, Mode::StackWord),
+        ShortRow::MovStkIstk => ShortForm::Two(Task::Move, Mode::StackWord, Mode::IndirectWord),
+        ShortRow::MovIstkIstk => ShortForm::Two(Task::Move, Mode::IndirectWord, Mode::IndirectWord),
+        ShortRow::MovImmStk => ShortForm::Two(Task::Move, Mode::Immediate, Mode::StackWord),
+        ShortRow::MovaStkStk => ShortForm::Two(Task::MoveAddress, Mode::StackWord, Mode::StackWord),
+        ShortRow::Shl3UimmStk => ShortForm::Two(
+            Task::Accumulate(Operation::Shl),
+            Mode::Immediate,
+            Mode::StackWord,
+        ),
+        ShortRow::Shr3UimmStk => ShortForm::Two(
+            Task::Accumulate(Operation::Shr),
+            Mode::Immediate,
+            Mode::StackWord,
+        ),
+        ShortRow::Enter => ShortForm::One(Monadic::Enter, MonadicMode::WordStack),
+        ShortRow::Catch => ShortForm::One(Monadic::Catch, MonadicMode::WordStack),
+        ShortRow::Return => ShortForm::One(Monadic::Return, MonadicMode::WordStack),
+        ShortRow::Popn => ShortForm::One(Monadic::Popn, MonadicMode::WordStack),
+        ShortRow::Kret => ShortForm::Zero(Niladic::Kret),
+        ShortRow::Nop => ShortForm::Zero(Niladic::Nop),
+        ShortRow::Flushi => ShortForm::Zero(Niladic::Nop),
+        ShortRow::Flushp => ShortForm::Zero(Niladic::Nop),
+        ShortRow::Cret => ShortForm::Zero(Niladic::Cret),
+        ShortRow::Testv => ShortForm::Zero(Niladic::Testv),
+        ShortRow::Testc => ShortForm::Zero(Niladic::Testc),
+        ShortRow::Clre => ShortForm::Zero(Niladic::Clre),
+    }
+}
+
+// What a row of two operands does.
+pub fn task_of(row: DyadicRow) -> Task
+    ensures { λ r. ⌜ r ≡ taskOf row ⌝ }
+{
+    match row {
+        DyadicRow::Ori => Task::Interlock(Operation::Or),
+        DyadicRow::Andi => Task::Interlock(Operation::And),
+        DyadicRow::Addi => Task::Interlock(Operation::Add),
+        DyadicRow::Mova => Task::MoveAddress,
+        DyadicRow::Urem => Task::Compute(Operation::Urem),
+        DyadicRow::Mov => Task::Move,
+        DyadicRow::Dqm => Task::MoveWords,
+        DyadicRow::Tadd => Task::TaggedAdd,
+        DyadicRow::Tsub => Task::TaggedSub,
+        DyadicRow::Cmpgt => Task::Compare(Relation::Greater),
+        DyadicRow::Cmphi => Task::Compare(Relation::Higher),
+        DyadicRow::Cmpeq => Task::Compare(Relation::Equal),
+        DyadicRow::Sub => Task::Compute(Operation::Sub),
+        DyadicRow::Or => Task::Compute(Operation::Or),
+        DyadicRow::And => Task::Compute(Operation::And),
+        DyadicRow::Add => Task::Compute(Operation::Add),
+        DyadicRow::Xor => Task::Compute(Operation::Xor),
+        DyadicRow::Rem => Task::Compute(Operation::Rem),
+        DyadicRow::Mul => Task::Compute(Operation::Mul),
+        DyadicRow::Div => Task::Compute(Operation::Div),
+        DyadicRow::Shr => Task::Compute(Operation::Shr),
+        DyadicRow::Ushr => Task::Compute(Operation::Ushr),
+        DyadicRow::Shl => Task::Compute(Operation::Shl),
+        DyadicRow::Udiv => Task::Compute(Operation::Udiv),
+        DyadicRow::Sub3 => Task::Accumulate(Operation::Sub),
+        DyadicRow::Or3 => Task::Accumulate(Operation::Or),
+        DyadicRow::And3 => Task::Accumulate(Operation::And),
+        DyadicRow::Add3 => Task::Accumulate(Operation::Add),
+        DyadicRow::Xor3 => Task::Accumulate(Operation::Xor),
+        DyadicRow::Rem3 => Task::Accumulate(Operation::Rem),
+        DyadicRow::Mul3 => Task::Accumulate(Operation::Mul),
+        DyadicRow::Div3 => Task::Accumulate(Operation::Div),
+        DyadicRow::Shr3 => Task::Accumulate(Operation::Shr),
+        DyadicRow::Ushr3 => Task::Accumulate(Operation::Ushr),
+        DyadicRow::Shl3 => Task::Accumulate(Operation::Shl),
+    }
+}
+
+// What a row of one operand does.
+pub fn monadic_of(row: MonadicRow) -> Monadic
+    ensures { λ r. ⌜ r ≡ monadicOf row ⌝ }
+{
+    match row {
+        MonadicRow::Kcall => Monadic::Kcall,
+        MonadicRow::Call => Monadic::Call,
+        MonadicRow::Return => Monadic::Return,
+        MonadicRow::Jmp => Monadic::Jmp,
+        MonadicRow::Jmpfn => Monadic::JmpFalse,
+        MonadicRow::Jmpfy => Monadic::JmpFalse,
+        MonadicRow::Jmptn => Monadic::JmpTrue,
+        MonadicRow::Jmpty => Monadic::JmpTrue,
+        MonadicRow::Catch => Monadic::Catch,
+        MonadicRow::Enter => Monadic::Enter,
+        MonadicRow::Ldraa => Monadic::Ldraa,
+        MonadicRow::Flushpte => Monadic::Flush,
+        MonadicRow::Flushpbe => Monadic::Flush,
+        MonadicRow::Popn => Monadic::Popn,
+    }
+}
