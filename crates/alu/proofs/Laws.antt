@@ -2,12 +2,8 @@
 -- Assumes nothing.
 use mathlib.Core.Path.{_≡_, refl}
 use mathlib.Core.Bool.{Bool, true, false}
-use Prim.Native.Nat.{ℕ, _+_, _*_, _/_, _^_, _<_}
-use native.Mathlib.Omega.{arith}
-use Rattle.laws.proofs.Cases.{by-test}
+use Prim.Native.Nat.{ℕ}
 use Rattle.word.specs.declared.Tagged.{Tagged}
-use Rattle.word.specs.Sums.{plusOf}
-use Rattle.bits.specs.Bits.{bitOf}
 use Rattle.isa.specs.declared.Wide.{Wide}
 use Rattle.isa.specs.declared.Wide.the-variants.{Three, Five}
 use Rattle.machine.specs.Registers.{config, pc, psw}
@@ -20,17 +16,10 @@ use Rattle.alu.specs.Modes.{absoluteOn}
 use Rattle.alu.specs.Results.{laidOver, taggedWith, taggedOver}
 use Rattle.alu.specs.Status.{testedOf}
 
--- an absolute address, where what the instruction holds is below 2 ^ 29
-pub absolute-address : (c : Cpu) (w : Wide) (v : ℕ) → reg c pc < 2 ^ 32 → v < 2 ^ 29
-    → absoluteAddress c w v ≡ absoluteOn (reg c config) (reg c pc) w v
-absolute-address c Three v h g =
-    let e : reg c pc / 2 ^ 29 * 2 ^ 29 + v ≡ plusOf (reg c pc / 2 ^ 29 * 2 ^ 29) v = omega arith in
-    by-test (bitOf (reg c config) 17) (λ t. simp t e) (λ t. simp t)
-absolute-address c Five v h g = refl
-
--- an address of five parcels, whatever it is
-pub absolute-whole : (c : Cpu) (v : ℕ) → absoluteAddress c Five v ≡ absoluteOn (reg c config) (reg c pc) Five v
-absolute-whole c v = refl
+-- an absolute address
+pub absolute-address : (c : Cpu) (w : Wide) (v : ℕ) → absoluteAddress c w v ≡ absoluteOn (reg c config) (reg c pc) w v
+absolute-address c Three v = refl
+absolute-address c Five v = refl
 
 -- the PSW of a machine
 pub flags-laid : (c : Cpu) (r : Result) → withFlags c (r .carry) (r .overflow) ≡ with c psw (laidOver r (reg c psw))

@@ -16,7 +16,7 @@ kindFrom Offset = offset
 kindFrom Indirect = indirect
 kindFrom Constant = constant
 
--- at 32 bits: of an address of 16 bits, as an instruction of three parcels has it, the sum does not wrap
+-- the absolute address of an operand, by the words of CONFIG and PC
 abbrev pub absoluteOn : ℕ → ℕ → Wide → ℕ → ℕ
 absoluteOn config pc Three v = cond (bitOf config 17) (plusOf (pc / 2 ^ 29 * 2 ^ 29) v) v
 absoluteOn config pc Five v = v

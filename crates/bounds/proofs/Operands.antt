@@ -19,6 +19,7 @@ use Rattle.isa.specs.declared.Wide.the-variants.{Three, Five}
 use Rattle.isa.specs.Legal.{isRegister}
 use Rattle.machine.specs.Registers.{config, id, isp, pc, msp, shad, sp, lowBits, bitCounts, kept, bankSize, traceDue, prefixedRegisters, registerOf}
 use Rattle.machine.specs.Status.{Cpu, reg, with, csp, isUser}
+use Rattle.word.specs.Sums.{plusOf}
 use Rattle.exec.specs.Operands.{Kind, absolute, offset, indirect, constant, kindOf, widthOf, absoluteAddress, stackAddress, Place, inMemory, inRegister, literal, located, locate, readPlace, readOperand, shadowed, writeRegister, writePlace, writeAccumulator, missing, checkRegisters}
 use Rattle.bounds.proofs.Within.{Any}
 use Rattle.bounds.proofs.Rules.{Rules, Value, Part, bind, gives, stops, either}
@@ -106,9 +107,9 @@ module _ (k : Rules) where
   absolute-value c Five v h f = λ _. f
   absolute-value c Three v h f = go (bitOf (reg c config) 17)
     where
-      go : (b : Bool) → Value k (cond b (reg c pc / 2 ^ 29 * 2 ^ 29 + v) v)
-      go true t = omega (arith, f, k .words c pc h t)
-      go false t = omega (arith, f)
+      go : (b : Bool) → Value k (cond b (plusOf (reg c pc / 2 ^ 29 * 2 ^ 29) v) v)
+      go true = plus-value k _ v
+      go false = λ t. omega (arith, f)
 
   located-part : (c : Cpu) (w : Wide) (n : Kind) (m : Mode) (v : ℕ) → k .Holds c → AddressFits w n v → Part k (PlaceFits k) 1 (located c w n m v)
   unfolding located

@@ -85,7 +85,7 @@ expanded m x = cond (isSigned m) (signExtendOf (bitsOf (widthOf m)) x) x
 
 -- 1.6.2: a 16-bit absolute address, by the CONFIG PC extension bit; PC is the instruction's, or its prefix's
 abbrev pub absoluteAddress : Cpu → Wide → ℕ → ℕ
-absoluteAddress c Three v = cond (bitOf (reg c config) 17) (reg c pc / 2 ^ 29 * 2 ^ 29 + v) v
+absoluteAddress c Three v = cond (bitOf (reg c config) 17) (plusOf (reg c pc / 2 ^ 29 * 2 ^ 29) v) v
 absoluteAddress c Five v = v
 
 -- from the current stack pointer

@@ -1,0 +1,5 @@
+pub mod PartLaws
+pub mod PlaceLaws
+pub mod ReadLaws
+pub mod WriteLaws
+pub mod CheckLaws

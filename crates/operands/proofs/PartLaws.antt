@@ -1,0 +1,97 @@
+-- Parts of an instruction by the code's answers: with a value the rest goes on, with an exception it stops.
+-- Assumes nothing.
+use Prim.Native.Nat.{ℕ, _%_, _^_, _<_, _≤_}
+use mathlib.Core.Path.{_≡_, refl, sym, ap, _∙_}
+use mathlib.Core.Bool.{cond, _||_}
+use native.Mathlib.Omega.{arith}
+use lib.ListN.{set}
+use lib.Dec.{eqb}
+use Rattle.memory.specs.Answers.{Answer, got, bad, answerOf}
+use Rattle.memory.proofs.AnswerLaws.{answer-low, answer-high}
+use Rattle.program.specs.Access.{Gave, gave}
+use Rattle.program.specs.Program.{Program, interpret}
+use Rattle.program.specs.Journal.{Journaled, logging}
+use Rattle.machine.specs.Registers.{Bank}
+use Rattle.machine.specs.Cache.{Cache}
+use Rattle.machine.specs.Status.{Cpu, cpu}
+use Rattle.access.specs.Parts.{Out, ok, stop, onward, _>>=_, faulted, replied}
+use Rattle.access.specs.Code.{wrote, ended}
+use Rattle.access.proofs.Bind.{bind, faulted-bank}
+use Rattle.operands.specs.Code.{giving, valued}
+
+pub not-both : (x : ℕ) → 2 ^ 32 ≤ x → x < 2 ^ 32 → ⊥
+not-both x h l = omega arith
+
+-- ---- parts that give a value
+
+module _ {A : Type 0} (f : ℕ → A) (b : Bank) (q : Cache) (x : ℕ) where
+  pub given : x < 2 ^ 32 → giving f (answerOf x) b q ≡ ok (f (x % 2 ^ 32))
+  given h = rw (answer-low x h) refl
+
+  pub halted : 2 ^ 32 ≤ x → giving f (answerOf x) b q ≡ stop (x % 2 ^ 32) (cpu b q)
+  halted h = rw (answer-high x h) refl
+
+pub ended-halted : (b : Bank) (q : Cache) (x : ℕ) → 2 ^ 32 ≤ x → ended (answerOf x) b q ≡ stop (x % 2 ^ 32) (cpu b q)
+ended-halted b q x h = rw (answer-high x h) refl
+
+module _ {A B : Type 0} (f : ℕ → A) (b : Bank) (q : Cache) (x : ℕ) (p : Program (Out A)) (g : A → Program (Out B)) (t u : Journaled)
+    (e : gave (giving f (answerOf x) b q) u ≡ interpret logging p t) where
+  pub goes : x < 2 ^ 32 → interpret logging (p >>= g) t ≡ interpret logging (g (f (x % 2 ^ 32))) u
+  unfolding onward
+  goes h = rw (bind p g t, ← e, given f b q x h) refl
+
+  pub stops : 2 ^ 32 ≤ x → interpret logging (p >>= g) t ≡ gave (stop (x % 2 ^ 32) (cpu b q)) u
+  unfolding onward interpret
+  stops h = rw (bind p g t, ← e, halted f b q x h) refl
+
+  pub stops-giving : (k : ℕ → B) → 2 ^ 32 ≤ x → gave (giving k (answerOf x) b q) u ≡ interpret logging (p >>= g) t
+  stops-giving k h = ap (λ (o : Out B). gave o u) (halted k b q x h) ∙ sym (stops h)
+
+-- ---- parts that give a machine
+
+module _ {A : Type 0} (f : ℕ → A) (b : Bank) (q : Cache) (x : ℕ) (p : Program (Out A)) (g : A → Program (Out Cpu)) (t u : Journaled)
+    (e : gave (giving f (answerOf x) b q) u ≡ interpret logging p t) where
+  pub stops-ended : 2 ^ 32 ≤ x → gave (ended (answerOf x) b q) u ≡ interpret logging (p >>= g) t
+  stops-ended h = ap (λ (o : Out Cpu). gave o u) (ended-halted b q x h) ∙ sym (stops f b q x p g t u e h)
+
+module _ (b : Bank) (q : Cache) (x : ℕ) (p : Program (Out Cpu)) (g : Cpu → Program (Out Cpu)) (t u : Journaled)
+    (e : gave (ended (answerOf x) b q) u ≡ interpret logging p t) where
+  pub ended-goes : x < 2 ^ 32 → interpret logging (p >>= g) t ≡ interpret logging (g (cpu b q)) u
+  unfolding onward
+  ended-goes h = rw (bind p g t, ← e, answer-low x h) refl
+
+  pub ended-stops : 2 ^ 32 ≤ x → gave (ended (answerOf x) b q) u ≡ interpret logging (p >>= g) t
+  unfolding onward interpret
+  ended-stops h = rw (bind p g t, ← e, answer-high x h) refl
+
+-- ---- an access, and FAULT as its fault leaves it
+
+-- the bank that a fault at the address a leaves
+abbrev pub faultBank : Bank → ℕ → ℕ → Bank
+faultBank b x a = cond (eqb (x % 2 ^ 32) 8 || eqb (x % 2 ^ 32) 9) (set b 1 a) b
+
+module _ (b : Bank) (q : Cache) (x a : ℕ) (p : Program (Out ℕ)) (t u : Journaled) (e : gave (replied (cpu b q) a (answerOf x)) u ≡ interpret logging p t) where
+  pub load-fault : (s : Bank) → 2 ^ 32 ≤ x → s ≡ faultBank b x a → (gave (valued (answerOf x) s q) u ≡ interpret logging p t) × (x < 2 ^ 32 → s ≡ b)
+  load-fault s h f = (same ∙ e, λ l. absurd (not-both x h l))
+    where
+      same : gave (valued (answerOf x) s q) u ≡ gave (replied (cpu b q) a (answerOf x)) u
+      same = rw (answer-high x h, f, faulted-bank b q (x % 2 ^ 32) a) refl
+
+  pub load-went : x < 2 ^ 32 → (gave (valued (answerOf x) b q) u ≡ interpret logging p t) × (x < 2 ^ 32 → b ≡ b)
+  load-went h = (same ∙ e, λ l. refl)
+    where
+      same : gave (valued (answerOf x) b q) u ≡ gave (replied (cpu b q) a (answerOf x)) u
+      same = rw (answer-low x h) refl
+
+module _ (b : Bank) (q : Cache) (x a : ℕ) (p : Program (Out Cpu)) (t u : Journaled) (e : gave (wrote (cpu b q) a (answerOf x)) u ≡ interpret logging p t) where
+  pub store-fault : (s : Bank) → 2 ^ 32 ≤ x → s ≡ faultBank b x a → gave (ended (answerOf x) s q) u ≡ interpret logging p t
+  store-fault s h f = same ∙ e
+    where
+      same : gave (ended (answerOf x) s q) u ≡ gave (wrote (cpu b q) a (answerOf x)) u
+      same = rw (answer-high x h, f, faulted-bank b q (x % 2 ^ 32) a) refl
+
+  pub store-went : x < 2 ^ 32 → gave (ended (answerOf x) b q) u ≡ interpret logging p t
+  store-went h = same ∙ e
+    where
+      same : gave (ended (answerOf x) b q) u ≡ gave (wrote (cpu b q) a (answerOf x)) u
+      same = rw (answer-low x h) refl

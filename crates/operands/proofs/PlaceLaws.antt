@@ -1,0 +1,68 @@
+-- The ways out of finding an operand.
+-- Assumes nothing.
+use Prim.Native.Nat.{ℕ, _<_, _^_}
+use mathlib.Core.Path.{_≡_, refl, sym, ap, _∙_}
+use mathlib.Core.Bool.{Bool}
+use mathlib.Core.List.{[]}
+use Rattle.word.specs.declared.Width.the-variants.{Word}
+use Rattle.isa.specs.declared.Mode.{Mode}
+use Rattle.isa.specs.declared.Operand.{Operand}
+use Rattle.isa.specs.declared.Operand.the-variants.{General, Register}
+use Rattle.isa.specs.declared.Wide.{Wide}
+use Rattle.memory.specs.Answers.{Answer, got, bad, answerOf}
+use Rattle.program.specs.Access.{Gave, gave}
+use Rattle.program.specs.Program.{Program, interpret}
+use Rattle.program.specs.Journal.{Journaled, logging}
+use Rattle.machine.specs.Registers.{Bank, word}
+use Rattle.machine.specs.Cache.{Cache}
+use Rattle.machine.specs.Status.{Cpu, cpu}
+use Rattle.access.specs.Parts.{Out, ok, onward, _>>=_, done}
+use Rattle.access.specs.Data.{readData}
+use Rattle.access.proofs.Bind.{bind}
+use Rattle.exec.specs.Operands.{kindOf, stackAddress, Place, inMemory, located, locate}
+use Rattle.alu.specs.declared.OperandKind.{OperandKind}
+use Rattle.alu.specs.declared.OperandKind.the-variants.{Absolute, Offset, Indirect, Constant}
+use Rattle.alu.specs.Modes.{kindFrom, absoluteOn}
+use Rattle.alu.proofs.Laws.{absolute-address}
+use Rattle.operands.specs.Code.{isConstant, placeAt, giving, valued, placed}
+
+pub kind-told : (m : Mode) (k j : OperandKind) (x : Bool) → kindFrom k ≡ kindOf m → k ≡ j → x ≡ isConstant (kindFrom j) → x ≡ isConstant (kindOf m)
+kind-told m k j x e h f = rw (← e, h) f
+
+module _ (b : Bank) (q : Cache) (w : Wide) (m : Mode) (v : ℕ) (t : Journaled) (k : OperandKind) (ek : kindFrom k ≡ kindOf m) (x : ℕ) where
+  pub located-absolute : k ≡ Absolute → (a : ℕ) → a ≡ absoluteOn (word b 0) (word b 5) w v → answerOf x ≡ got a
+      → gave (placed (General m v) (answerOf x) b q) t ≡ interpret logging (located (cpu b q) w (kindOf m) m v) t
+  unfolding located interpret
+  located-absolute h a ea ex = rw (ex, ← ek, h) (ap (λ (y : ℕ). gave (ok (inMemory m y)) t) (ea ∙ sym (absolute-address (cpu b q) w v)))
+
+  pub located-offset : k ≡ Offset → (a : ℕ) → a ≡ stackAddress (cpu b []) v → answerOf x ≡ got a
+      → gave (placed (General m v) (answerOf x) b q) t ≡ interpret logging (located (cpu b q) w (kindOf m) m v) t
+  unfolding located interpret
+  located-offset h a ea ex = rw (ex, ← ek, h) (ap (λ (y : ℕ). gave (ok (inMemory m y)) t) ea)
+
+  pub located-constant : k ≡ Constant → answerOf x ≡ got 0
+      → gave (placed (General m v) (answerOf x) b q) t ≡ interpret logging (located (cpu b q) w (kindOf m) m v) t
+  unfolding located interpret
+  located-constant h ex = rw (ex, ← ek, h) refl
+
+  pub located-indirect : k ≡ Indirect → (a : ℕ) → a ≡ stackAddress (cpu b []) v → (s : Bank) (u : Journaled)
+      → gave (valued (answerOf x) s q) u ≡ interpret logging (readData (cpu b q) Word a) t
+      → gave (placed (General m v) (answerOf x) s q) u ≡ interpret logging (located (cpu b q) w (kindOf m) m v) t
+  unfolding located interpret onward
+  located-indirect h a ea s u e =
+      rw (← ek, h, ← ea, bind (readData (cpu b q) Word a) (λ y. done (inMemory m y)) t, ← e) (go (answerOf x))
+    where
+      go : (z : Answer) → gave (placed (General m v) z s q) u ≡ interpret logging (onward (λ y. done (inMemory m y)) (valued z s q)) u
+      go (got y) = rw (← ek, h) refl
+      go (bad y) = refl
+
+module _ (b s : Bank) (q : Cache) (w : Wide) (o : Operand) (x : ℕ) (t u : Journaled) where
+  pub located-general : (m : Mode) (v : ℕ) → o ≡ General m v
+      → gave (placed (General m v) (answerOf x) s q) u ≡ interpret logging (located (cpu b q) w (kindOf m) m v) t
+      → gave (placed o (answerOf x) s q) u ≡ interpret logging (locate (cpu b q) w o) t
+  unfolding locate
+  located-general m v h e = rw h e
+
+  pub located-register : (n : ℕ) → o ≡ Register n → answerOf x ≡ got 0 → gave (placed o (answerOf x) b q) t ≡ interpret logging (locate (cpu b q) w o) t
+  unfolding locate interpret
+  located-register n h ex = rw (h, ex) refl

@@ -1,0 +1,75 @@
+-- The ways out of reading an operand.
+-- Assumes nothing.
+use Prim.Native.Nat.{ℕ, _%_, _<_, _≤_, _^_}
+use mathlib.Core.Path.{_≡_, refl, sym, ap, _∙_}
+use mathlib.Core.Bool.{Bool, true, false}
+use native.Mathlib.Omega.{arith}
+use lib.ListN.{length, getD, List·getD-eq-default}
+use Rattle.word.specs.declared.Width.{Width}
+use Rattle.isa.specs.declared.Mode.{Mode}
+use Rattle.isa.specs.declared.Operand.{Operand}
+use Rattle.isa.specs.declared.Operand.the-variants.{General, Register}
+use Rattle.isa.specs.declared.Wide.{Wide}
+use Rattle.memory.specs.Answers.{Answer, got, bad, answerOf}
+use Rattle.program.specs.Access.{Gave, gave}
+use Rattle.program.specs.Program.{Program, interpret}
+use Rattle.program.specs.Journal.{Journaled, logging}
+use Rattle.machine.specs.Registers.{Bank, word, registerOf}
+use Rattle.machine.specs.Cache.{Cache}
+use Rattle.machine.specs.Status.{Cpu, cpu}
+use Rattle.access.specs.Parts.{Out, ok, done, _>>=_}
+use Rattle.access.specs.Data.{readData}
+use Rattle.exec.specs.Operands.{kindOf, widthOf, expanded, inMemory, locate, readPlace, readOperand}
+use Rattle.operands.specs.Code.{isConstant, generalAt, placeAt, valued, placed}
+use Rattle.operands.proofs.PartLaws.{goes, stops-giving}
+
+pub word-past : (b : Bank) (k : ℕ) → length b ≡ 17 → 17 ≤ k → 0 ≡ word b k
+word-past b k e h = sym (List·getD-eq-default b 0 {n = k} (omega arith))
+
+module _ (b s : Bank) (q : Cache) (m : Mode) (a x : ℕ) (w : Width) (ew : w ≡ widthOf m) (t u : Journaled)
+    (e : gave (valued (answerOf x) s q) u ≡ interpret logging (readData (cpu b q) w a) t) where
+  pub expanded-fault : 2 ^ 32 ≤ x → gave (valued (answerOf x) s q) u ≡ interpret logging (readPlace (cpu b q) (inMemory m a)) t
+  unfolding readPlace
+  expanded-fault h = stops-giving (λ v. v) s q x (readData (cpu b q) (widthOf m) a) (λ v. done (expanded m v)) t u (rw ew at e) (λ v. v) h
+
+  pub expanded-read : x < 2 ^ 32 → (l y z : ℕ) → l ≡ x % 2 ^ 32 → y ≡ expanded m l → answerOf z ≡ got y
+      → gave (valued (answerOf z) s q) u ≡ interpret logging (readPlace (cpu b q) (inMemory m a)) t
+  unfolding readPlace interpret
+  expanded-read h l y z el ey ez =
+      ap (λ (o : Out ℕ). gave o u) value ∙ sym (goes (λ v. v) s q x (readData (cpu b q) (widthOf m) a) (λ v. done (expanded m v)) t u (rw ew at e) h)
+    where
+      value : valued (answerOf z) s q ≡ ok (expanded m (x % 2 ^ 32))
+      value = rw (ez, ey, el) refl
+
+module _ (b s : Bank) (q : Cache) (m : Mode) (v a x : ℕ) (k : Bool) (ek : k ≡ isConstant (kindOf m)) (t u : Journaled) where
+  pub constant-read : k ≡ true → answerOf x ≡ got v → gave (valued (answerOf x) b q) t ≡ interpret logging (readPlace (cpu b q) (generalAt (kindOf m) m v a)) t
+  unfolding readPlace interpret
+  constant-read h ex = rw (sym ek ∙ h, ex) refl
+
+  pub memory-read : k ≡ false → gave (valued (answerOf x) s q) u ≡ interpret logging (readPlace (cpu b q) (inMemory m a)) t
+      → gave (valued (answerOf x) s q) u ≡ interpret logging (readPlace (cpu b q) (generalAt (kindOf m) m v a)) t
+  memory-read h e = rw (sym ek ∙ h) e
+
+module _ (b s : Bank) (q : Cache) (o : Operand) (a x : ℕ) (t u : Journaled) where
+  pub general-read : (m : Mode) (v : ℕ) → o ≡ General m v
+      → gave (valued (answerOf x) s q) u ≡ interpret logging (readPlace (cpu b q) (generalAt (kindOf m) m v a)) t
+      → gave (valued (answerOf x) s q) u ≡ interpret logging (readPlace (cpu b q) (placeAt o a)) t
+  general-read m v h e = rw h e
+
+  pub register-read : (n k y : ℕ) → o ≡ Register n → k ≡ registerOf n → y ≡ word b k → answerOf x ≡ got y
+      → gave (valued (answerOf x) b q) t ≡ interpret logging (readPlace (cpu b q) (placeAt o a)) t
+  unfolding readPlace interpret
+  register-read n k y h ek ey ex = rw (h, ex, ey, ek) refl
+
+module _ (b s : Bank) (q : Cache) (w : Wide) (o : Operand) (x : ℕ) (t u : Journaled)
+    (e : gave (placed o (answerOf x) s q) u ≡ interpret logging (locate (cpu b q) w o) t) where
+  pub operand-fault : 2 ^ 32 ≤ x → gave (valued (answerOf x) s q) u ≡ interpret logging (readOperand (cpu b q) w o) t
+  unfolding readOperand
+  operand-fault h = stops-giving (placeAt o) s q x (locate (cpu b q) w o) (readPlace (cpu b q)) t u e (λ v. v) h
+
+  pub operand-read : x < 2 ^ 32 → s ≡ b → (l : ℕ) → l ≡ x % 2 ^ 32 → (z : ℕ) (r : Bank) (v : Journaled)
+      → gave (valued (answerOf z) r q) v ≡ interpret logging (readPlace (cpu s q) (placeAt o l)) u
+      → gave (valued (answerOf z) r q) v ≡ interpret logging (readOperand (cpu b q) w o) t
+  unfolding readOperand
+  operand-read h es l el z r v f =
+      rw (es, el) at f ∙ sym (goes (placeAt o) s q x (locate (cpu b q) w o) (readPlace (cpu b q)) t u e h)
