@@ -1,18 +1,17 @@
 -- The ways out of the check of registers.
 -- Assumes nothing.
 use Prim.Native.Nat.{ℕ}
-use mathlib.Core.Path.{_≡_, refl, sym, ap, _∙_}
+use mathlib.Core.Path.{_≡_, refl}
 use mathlib.Core.Bool.{Bool, true, false, _&&_, _||_}
 use lib.Dec.{eqb}
 use Rattle.isa.specs.declared.Operand.{Operand}
-use Rattle.isa.specs.declared.Operand.the-variants.{General, Register}
+use Rattle.isa.specs.declared.Operand.the-variants.{Register}
 use Rattle.isa.specs.Legal.{isRegister}
-use Rattle.memory.specs.Answers.{Answer, got, bad, answerOf}
-use Rattle.program.specs.Program.{Program, ret}
+use Rattle.memory.specs.Answers.{got, bad, answerOf}
+use Rattle.program.specs.Program.{ret}
 use Rattle.machine.specs.Registers.{Bank, registerOf}
 use Rattle.machine.specs.Cache.{Cache}
-use Rattle.machine.specs.Status.{Cpu, cpu, isUser}
-use Rattle.access.specs.Parts.{Out, ok}
+use Rattle.machine.specs.Status.{cpu, isUser}
 use Rattle.access.specs.Code.{ended}
 use Rattle.exec.specs.Operands.{missing, checkRegisters}
 

@@ -6,15 +6,15 @@ use mathlib.Core.Bool.{cond, _||_}
 use native.Mathlib.Omega.{arith}
 use lib.ListN.{set}
 use lib.Dec.{eqb}
-use Rattle.memory.specs.Answers.{Answer, got, bad, answerOf}
+use Rattle.memory.specs.Answers.{answerOf}
 use Rattle.memory.proofs.AnswerLaws.{answer-low, answer-high}
-use Rattle.program.specs.Access.{Gave, gave}
+use Rattle.program.specs.Access.{gave}
 use Rattle.program.specs.Program.{Program, interpret}
 use Rattle.program.specs.Journal.{Journaled, logging}
 use Rattle.machine.specs.Registers.{Bank}
 use Rattle.machine.specs.Cache.{Cache}
 use Rattle.machine.specs.Status.{Cpu, cpu}
-use Rattle.access.specs.Parts.{Out, ok, stop, onward, _>>=_, faulted, replied}
+use Rattle.access.specs.Parts.{Out, ok, stop, onward, _>>=_, replied}
 use Rattle.access.specs.Code.{wrote, ended}
 use Rattle.access.proofs.Bind.{bind, faulted-bank}
 use Rattle.operands.specs.Code.{giving, valued}

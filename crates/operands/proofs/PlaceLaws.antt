@@ -1,6 +1,6 @@
 -- The ways out of finding an operand.
 -- Assumes nothing.
-use Prim.Native.Nat.{ℕ, _<_, _^_}
+use Prim.Native.Nat.{ℕ}
 use mathlib.Core.Path.{_≡_, refl, sym, ap, _∙_}
 use mathlib.Core.Bool.{Bool}
 use mathlib.Core.List.{[]}
@@ -10,21 +10,21 @@ use Rattle.isa.specs.declared.Operand.{Operand}
 use Rattle.isa.specs.declared.Operand.the-variants.{General, Register}
 use Rattle.isa.specs.declared.Wide.{Wide}
 use Rattle.memory.specs.Answers.{Answer, got, bad, answerOf}
-use Rattle.program.specs.Access.{Gave, gave}
-use Rattle.program.specs.Program.{Program, interpret}
+use Rattle.program.specs.Access.{gave}
+use Rattle.program.specs.Program.{interpret}
 use Rattle.program.specs.Journal.{Journaled, logging}
 use Rattle.machine.specs.Registers.{Bank, word}
 use Rattle.machine.specs.Cache.{Cache}
-use Rattle.machine.specs.Status.{Cpu, cpu}
-use Rattle.access.specs.Parts.{Out, ok, onward, _>>=_, done}
+use Rattle.machine.specs.Status.{cpu}
+use Rattle.access.specs.Parts.{ok, onward, _>>=_, done}
 use Rattle.access.specs.Data.{readData}
 use Rattle.access.proofs.Bind.{bind}
-use Rattle.exec.specs.Operands.{kindOf, stackAddress, Place, inMemory, located, locate}
+use Rattle.exec.specs.Operands.{kindOf, stackAddress, inMemory, located, locate}
 use Rattle.alu.specs.declared.OperandKind.{OperandKind}
 use Rattle.alu.specs.declared.OperandKind.the-variants.{Absolute, Offset, Indirect, Constant}
 use Rattle.alu.specs.Modes.{kindFrom, absoluteOn}
 use Rattle.alu.proofs.Laws.{absolute-address}
-use Rattle.operands.specs.Code.{isConstant, placeAt, giving, valued, placed}
+use Rattle.operands.specs.Code.{isConstant, valued, placed}
 
 pub kind-told : (m : Mode) (k j : OperandKind) (x : Bool) → kindFrom k ≡ kindOf m → k ≡ j → x ≡ isConstant (kindFrom j) → x ≡ isConstant (kindOf m)
 kind-told m k j x e h f = rw (← e, h) f

@@ -4,20 +4,20 @@ use Prim.Native.Nat.{ℕ, _%_, _<_, _≤_, _^_}
 use mathlib.Core.Path.{_≡_, refl, sym, ap, _∙_}
 use mathlib.Core.Bool.{Bool, true, false}
 use native.Mathlib.Omega.{arith}
-use lib.ListN.{length, getD, List·getD-eq-default}
+use lib.ListN.{length, List·getD-eq-default}
 use Rattle.word.specs.declared.Width.{Width}
 use Rattle.isa.specs.declared.Mode.{Mode}
 use Rattle.isa.specs.declared.Operand.{Operand}
 use Rattle.isa.specs.declared.Operand.the-variants.{General, Register}
 use Rattle.isa.specs.declared.Wide.{Wide}
-use Rattle.memory.specs.Answers.{Answer, got, bad, answerOf}
-use Rattle.program.specs.Access.{Gave, gave}
-use Rattle.program.specs.Program.{Program, interpret}
+use Rattle.memory.specs.Answers.{got, answerOf}
+use Rattle.program.specs.Access.{gave}
+use Rattle.program.specs.Program.{interpret}
 use Rattle.program.specs.Journal.{Journaled, logging}
 use Rattle.machine.specs.Registers.{Bank, word, registerOf}
 use Rattle.machine.specs.Cache.{Cache}
-use Rattle.machine.specs.Status.{Cpu, cpu}
-use Rattle.access.specs.Parts.{Out, ok, done, _>>=_}
+use Rattle.machine.specs.Status.{cpu}
+use Rattle.access.specs.Parts.{Out, ok, done}
 use Rattle.access.specs.Data.{readData}
 use Rattle.exec.specs.Operands.{kindOf, widthOf, expanded, inMemory, locate, readPlace, readOperand}
 use Rattle.operands.specs.Code.{isConstant, generalAt, placeAt, valued, placed}

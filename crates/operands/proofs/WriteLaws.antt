@@ -9,14 +9,14 @@ use Rattle.word.specs.declared.Width.the-variants.{Word}
 use Rattle.isa.specs.declared.Mode.{Mode}
 use Rattle.isa.specs.declared.Operand.{Operand}
 use Rattle.isa.specs.declared.Operand.the-variants.{General, Register}
-use Rattle.memory.specs.Answers.{Answer, got, bad, answerOf}
-use Rattle.program.specs.Access.{Gave, gave}
-use Rattle.program.specs.Program.{Program, interpret}
+use Rattle.memory.specs.Answers.{got, answerOf}
+use Rattle.program.specs.Access.{gave}
+use Rattle.program.specs.Program.{interpret}
 use Rattle.program.specs.Journal.{Journaled, logging}
 use Rattle.machine.specs.Registers.{Bank, registerOf}
 use Rattle.machine.specs.Cache.{Cache}
 use Rattle.machine.specs.Status.{Cpu, cpu}
-use Rattle.access.specs.Parts.{Out, ok}
+use Rattle.access.specs.Parts.{ok}
 use Rattle.access.specs.Data.{writeData}
 use Rattle.access.specs.Code.{ended}
 use Rattle.exec.specs.Operands.{kindOf, widthOf, stackAddress, writeRegister, writePlace, writeAccumulator}

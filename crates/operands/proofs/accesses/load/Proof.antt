@@ -1,5 +1,4 @@
 use Rattle.operands.proofs.PartLaws.{load-fault, load-went}
-use mathlib.Core.Path.{refl, sym, ap, _∙_}
 use Rattle.program.specs.Journal.{journaled}
 use borrow.Author.Needs.{needs}
 use Rattle.operands.proofs.accesses.load.Statement.{statement}

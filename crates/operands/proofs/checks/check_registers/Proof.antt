@@ -1,6 +1,4 @@
 use Rattle.operands.proofs.CheckLaws.{privilege-wanted, register-wanted, registers-there}
-use mathlib.Core.Path.{refl, sym, ap, _∙_}
-use Rattle.program.specs.Journal.{journaled}
 use borrow.Author.Needs.{needs}
 use Rattle.operands.proofs.checks.check_registers.Statement.{statement}
 use Rattle.operands.proofs.checks.check_registers.Tie as tie

@@ -1,6 +1,5 @@
 use Rattle.operands.proofs.CheckLaws.{missing-register}
-use mathlib.Core.Path.{refl, sym, ap, _∙_}
-use Rattle.program.specs.Journal.{journaled}
+use mathlib.Core.Path.{refl}
 use borrow.Author.Needs.{needs}
 use Rattle.operands.proofs.checks.is_missing.Statement.{statement}
 use Rattle.operands.proofs.checks.is_missing.Tie as tie

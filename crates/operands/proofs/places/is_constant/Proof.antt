@@ -1,6 +1,5 @@
 use Rattle.operands.proofs.PlaceLaws.{kind-told}
-use mathlib.Core.Path.{refl, sym, ap, _∙_}
-use Rattle.program.specs.Journal.{journaled}
+use mathlib.Core.Path.{refl}
 use borrow.Author.Needs.{needs}
 use Rattle.operands.proofs.places.is_constant.Statement.{statement}
 use Rattle.operands.proofs.places.is_constant.Tie as tie

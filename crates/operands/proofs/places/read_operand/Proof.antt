@@ -1,5 +1,5 @@
 use Rattle.operands.proofs.ReadLaws.{operand-fault, operand-read}
-use mathlib.Core.Path.{refl, sym, ap, _∙_}
+use mathlib.Core.Path.{_∙_}
 use Rattle.program.specs.Journal.{journaled}
 use borrow.Author.Needs.{needs}
 use Rattle.operands.proofs.places.read_operand.Statement.{statement}

@@ -1,5 +1,4 @@
 use Rattle.operands.proofs.WriteLaws.{constant-written, memory-written}
-use mathlib.Core.Path.{refl, sym, ap, _∙_}
 use Rattle.program.specs.Journal.{journaled}
 use borrow.Author.Needs.{needs}
 use Rattle.operands.proofs.places.write_general.Statement.{statement}

@@ -1,6 +1,4 @@
 use Rattle.operands.proofs.ReadLaws.{word-past}
-use mathlib.Core.Path.{refl, sym, ap, _∙_}
-use Rattle.program.specs.Journal.{journaled}
 use borrow.Author.Needs.{needs}
 use Rattle.operands.proofs.registers.word_at.Statement.{statement}
 use Rattle.operands.proofs.registers.word_at.Tie as tie
