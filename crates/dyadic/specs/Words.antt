@@ -1,0 +1,72 @@
+-- Double-words and quad-words as the code moves them: words in pairs.
+-- Assumes nothing.
+use Prim.Native.Nat.{ℕ}
+use mathlib.Core.Bool.{Bool, true, false, cond}
+use mathlib.Core.List.{List, [], _∷_}
+use Rattle.word.specs.declared.Width.the-variants.{Word}
+use Rattle.word.specs.Sums.{plusOf}
+use Rattle.isa.specs.declared.Operand.{Operand}
+use Rattle.isa.specs.declared.Operand.the-variants.{General, Register}
+use Rattle.isa.specs.declared.Wide.{Wide}
+use Rattle.memory.specs.Answers.{Answer, got, bad}
+use Rattle.program.specs.Program.{Program, ret}
+use Rattle.machine.specs.Registers.{Bank, word, registerOf}
+use Rattle.machine.specs.Cache.{Cache}
+use Rattle.machine.specs.Status.{Cpu, cpu}
+use Rattle.access.specs.Parts.{Out, stop, _>>=_}
+use Rattle.access.specs.Data.{readData, writeData}
+use Rattle.exec.specs.Operands.{Place, kindOf, locate}
+use Rattle.exec.specs.Dyadic.{readMany, writeMany}
+use Rattle.operands.specs.Code.{isConstant}
+
+-- what follows a write: the rest with the machine as it then is, or the exception
+abbrev pub followed : (Cpu → Program (Out Cpu)) → Answer → Bank → Cache → Program (Out Cpu)
+followed f (got v) b q = f (cpu b q)
+followed f (bad e) b q = ret (stop e (cpu b q))
+
+-- two words in a row, then the rest
+abbrev pub loading : Cpu → ℕ → (ℕ → ℕ → Program (Out Cpu)) → Program (Out Cpu)
+loading c a f = do
+  x ← readData c Word a
+  y ← readData c Word (plusOf a 4)
+  f x y
+
+abbrev pub storing : Cpu → ℕ → ℕ → ℕ → (Cpu → Program (Out Cpu)) → Program (Out Cpu)
+storing c a x y f = do
+  c ← writeData c Word a x
+  c ← writeData c Word (plusOf a 4) y
+  f c
+
+-- the words of a double-word or a quad-word; y is the last one
+abbrev pub wordsOf : Bool → ℕ → ℕ → ℕ → ℕ → List ℕ
+wordsOf true w0 w1 w2 y = w0 ∷ y ∷ []
+wordsOf false w0 w1 w2 y = w0 ∷ w1 ∷ w2 ∷ y ∷ []
+
+abbrev pub countOf : Bool → ℕ
+countOf k = cond k 2 4
+
+-- an operand that is not in memory, and its word
+abbrev pub isScalar : Operand → Bool
+isScalar (General m v) = isConstant (kindOf m)
+isScalar (Register n) = true
+
+abbrev pub scalarOf : Bank → Operand → ℕ
+scalarOf b (General m v) = v
+scalarOf b (Register n) = word b (registerOf n)
+
+-- the words of an operand, then the rest
+abbrev pub manyThen : Cpu → Bool → Place → (List ℕ → Program (Out Cpu)) → Program (Out Cpu)
+manyThen c k p f = do
+  xs ← readMany c (countOf k) p
+  f xs
+
+-- what is left of DQM once its source is read, and once it is found
+abbrev pub putWords : Cpu → Bool → Wide → Operand → List ℕ → Program (Out Cpu)
+putWords c k w d xs = do
+  p ← locate c w d
+  writeMany c (countOf k) p xs
+
+abbrev pub copyWords : Cpu → Bool → Wide → Operand → Place → Program (Out Cpu)
+copyWords c k w d p = do
+  xs ← readMany c (countOf k) p
+  putWords c k w d xs

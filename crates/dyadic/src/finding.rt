@@ -1,0 +1,92 @@
+// The operands of an instruction before it computes: the source's value, the destination's place and its value. A
+// contract says what any rest of an instruction gives after them.
+use isa::Operand;
+use isa::Wide;
+use memory::answers::low32;
+use operands::places::locate_at;
+use operands::places::read_at;
+use operands::places::read_operand;
+ghost use mathlib.Core.Path.{_≡_};
+ghost use Rattle.memory.specs.Answers.{answerOf};
+ghost use Rattle.program.specs.Program.{interpret};
+ghost use Rattle.program.specs.Journal.{journaled, logging};
+ghost use Rattle.machine.specs.Status.{cpu};
+ghost use Prim.Native.Nat.{ℕ, _<_, _^_};
+ghost use Rattle.program.specs.Program.{Program};
+ghost use Rattle.machine.specs.Status.{Cpu};
+ghost use Rattle.access.specs.Parts.{Out};
+ghost use Rattle.exec.specs.Operands.{Place};
+ghost use Rattle.operands.specs.Code.{placeAt};
+ghost use Rattle.dyadic.specs.Code.{resumed, finding, reading};
+
+// The destination's address or an exception, and the source's value.
+pub struct Found {
+    pub answer: u64,
+    pub source: u32,
+}
+
+// The destination's value or an exception, the source's value, and the destination's address.
+pub struct Both {
+    pub answer: u64,
+    pub source: u32,
+    pub address: u32,
+}
+
+// The source is read, then the destination found.
+pub fn find(
+    m: &mut [u8],
+    places: &mut [u32; 201],
+    words: &mut [[u8; 4]; 200],
+    q: &[[u32; 4]; 16],
+    r: &mut [u32; 17],
+    wide: Wide,
+    s: Operand,
+    d: Operand,
+) -> Found
+    ensures { λ z. ⌜ ((f : ℕ → Place → Program (Out Cpu)) → interpret logging (resumed (λ a. f (z .source) (placeAt d a)) (answerOf (z .answer)) (now (r .exit)) (now (q .entry))) (journaled (now (m .exit)) (now (places .exit)) (now (words .exit))) ≡ interpret logging (finding (cpu (now (r .entry)) (now (q .entry))) wide s d f) (journaled (now (m .entry)) (now (places .entry)) (now (words .entry)))) × (z .answer < 2 ^ 32 → now (r .exit) ≡ now (r .entry)) ⌝ }
+{
+    let x = read_operand(m, places, words, q, r, wide, s);
+    if 0x1_0000_0000 <= x {
+        Found {
+            answer: x,
+            source: 0,
+        }
+    } else {
+        let a = locate_at(m, places, words, q, r, wide, d);
+        Found {
+            answer: a,
+            source: low32(x),
+        }
+    }
+}
+
+// And the destination is read.
+pub fn read_both(
+    m: &mut [u8],
+    places: &mut [u32; 201],
+    words: &mut [[u8; 4]; 200],
+    q: &[[u32; 4]; 16],
+    r: &mut [u32; 17],
+    wide: Wide,
+    s: Operand,
+    d: Operand,
+) -> Both
+    ensures { λ z. ⌜ ((f : ℕ → Place → ℕ → Program (Out Cpu)) → interpret logging (resumed (λ y. f (z .source) (placeAt d (z .address)) y) (answerOf (z .answer)) (now (r .exit)) (now (q .entry))) (journaled (now (m .exit)) (now (places .exit)) (now (words .exit))) ≡ interpret logging (reading (cpu (now (r .entry)) (now (q .entry))) wide s d f) (journaled (now (m .entry)) (now (places .entry)) (now (words .entry)))) × (z .answer < 2 ^ 32 → now (r .exit) ≡ now (r .entry)) ⌝ }
+{
+    let f = find(m, places, words, q, r, wide, s, d);
+    if 0x1_0000_0000 <= f.answer {
+        Both {
+            answer: f.answer,
+            source: 0,
+            address: 0,
+        }
+    } else {
+        let a = low32(f.answer);
+        let y = read_at(m, places, words, q, r, d, a);
+        Both {
+            answer: y,
+            source: f.source,
+            address: a,
+        }
+    }
+}

@@ -1,0 +1,100 @@
+// MOV and MOVA.
+use crate::finding::find;
+use isa::Mode;
+use isa::Operand;
+use isa::Wide;
+use memory::answers::low32;
+use operands::places::is_constant;
+use operands::places::locate_at;
+use operands::places::write_at;
+ghost use mathlib.Core.Path.{_≡_};
+ghost use Rattle.memory.specs.Answers.{answerOf};
+ghost use Rattle.program.specs.Access.{gave};
+ghost use Rattle.program.specs.Program.{interpret};
+ghost use Rattle.program.specs.Journal.{journaled, logging};
+ghost use Rattle.machine.specs.Status.{cpu};
+ghost use Rattle.access.specs.Code.{ended};
+ghost use Rattle.exec.specs.Operands.{kindOf};
+ghost use Rattle.exec.specs.Dyadic.{move as moveOf, moveAddress, placeAddress};
+ghost use Rattle.operands.specs.Code.{generalAt, placeAt};
+ghost use Rattle.dyadic.specs.Code.{moveTo};
+
+// MOV.
+pub fn move_operand(
+    m: &mut [u8],
+    places: &mut [u32; 201],
+    words: &mut [[u8; 4]; 200],
+    q: &mut [[u32; 4]; 16],
+    r: &mut [u32; 17],
+    wide: Wide,
+    s: Operand,
+    d: Operand,
+) -> u64
+    ensures { λ z. ⌜ gave (ended (answerOf z) (now (r .exit)) (now (q .exit))) (journaled (now (m .exit)) (now (places .exit)) (now (words .exit))) ≡ interpret logging (moveOf (cpu (now (r .entry)) (now (q .entry))) wide s d) (journaled (now (m .entry)) (now (places .entry)) (now (words .entry))) ⌝ }
+{
+    let f = find(m, places, words, q, r, wide, s, d);
+    if 0x1_0000_0000 <= f.answer {
+        f.answer
+    } else {
+        write_at(m, places, words, q, r, d, low32(f.answer), f.source)
+    }
+}
+
+// The address of an operand that is no register: a constant is its own.
+fn general_address(mode: Mode, v: u32, a: u32) -> u32
+    ensures { λ z. ⌜ z ≡ placeAddress (generalAt (kindOf mode) mode v a) ⌝ }
+{
+    if is_constant(mode) { v } else { a }
+}
+
+// The address of an operand found at a.
+fn address_of(o: Operand, a: u32) -> u32
+    ensures { λ z. ⌜ z ≡ placeAddress (placeAt o a) ⌝ }
+{
+    match o {
+        Operand::General(mode, v) => general_address(mode, v, a),
+        Operand::Register(_) => 0,
+    }
+}
+
+// A word to the destination.
+fn move_to(
+    m: &mut [u8],
+    places: &mut [u32; 201],
+    words: &mut [[u8; 4]; 200],
+    q: &mut [[u32; 4]; 16],
+    r: &mut [u32; 17],
+    wide: Wide,
+    d: Operand,
+    v: u32,
+) -> u64
+    ensures { λ z. ⌜ gave (ended (answerOf z) (now (r .exit)) (now (q .exit))) (journaled (now (m .exit)) (now (places .exit)) (now (words .exit))) ≡ interpret logging (moveTo (cpu (now (r .entry)) (now (q .entry))) wide d v) (journaled (now (m .entry)) (now (places .entry)) (now (words .entry))) ⌝ }
+{
+    let a = locate_at(m, places, words, q, r, wide, d);
+    if 0x1_0000_0000 <= a {
+        a
+    } else {
+        write_at(m, places, words, q, r, d, low32(a), v)
+    }
+}
+
+// MOVA.
+pub fn move_address(
+    m: &mut [u8],
+    places: &mut [u32; 201],
+    words: &mut [[u8; 4]; 200],
+    q: &mut [[u32; 4]; 16],
+    r: &mut [u32; 17],
+    wide: Wide,
+    s: Operand,
+    d: Operand,
+) -> u64
+    ensures { λ z. ⌜ gave (ended (answerOf z) (now (r .exit)) (now (q .exit))) (journaled (now (m .exit)) (now (places .exit)) (now (words .exit))) ≡ interpret logging (moveAddress (cpu (now (r .entry)) (now (q .entry))) wide s d) (journaled (now (m .entry)) (now (places .entry)) (now (words .entry))) ⌝ }
+{
+    let a = locate_at(m, places, words, q, r, wide, s);
+    if 0x1_0000_0000 <= a {
+        a
+    } else {
+        move_to(m, places, words, q, r, wide, d, address_of(s, low32(a)))
+    }
+}

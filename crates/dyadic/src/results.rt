@@ -1,0 +1,246 @@
+// Results and comparisons: the destination is read, then a result is written and its flags laid over PSW.
+use crate::finding::read_both;
+use alu::operations::divides;
+use alu::operations::operate;
+use alu::operations::related;
+use alu::results::value_of;
+use bank::status::with_flag;
+use bank::status::with_flags;
+use exec::Operation;
+use exec::Relation;
+use isa::Operand;
+use isa::Wide;
+use memory::answers::good;
+use memory::answers::low32;
+use memory::answers::raised;
+use operands::accesses::write_accumulator;
+use operands::places::write_at;
+ghost use mathlib.Core.Path.{_≡_};
+ghost use Rattle.memory.specs.Answers.{answerOf};
+ghost use Rattle.program.specs.Access.{gave};
+ghost use Rattle.program.specs.Program.{interpret};
+ghost use Rattle.program.specs.Journal.{journaled, logging};
+ghost use Rattle.machine.specs.Status.{cpu};
+ghost use Rattle.access.specs.Code.{ended};
+ghost use Rattle.exec.specs.Dyadic.{compute as computeOf, accumulate as accumulateOf, interlock as interlockOf, compare as compareOf};
+ghost use Rattle.alu.specs.Results.{unpacked};
+ghost use Rattle.operands.specs.Code.{placeAt};
+ghost use Rattle.dyadic.specs.Code.{putResult, accumulateResult, computeWith, accumulateWith, interlockWith};
+
+// A packed result to the destination found at a.
+fn put_result(
+    m: &mut [u8],
+    places: &mut [u32; 201],
+    words: &mut [[u8; 4]; 200],
+    q: &mut [[u32; 4]; 16],
+    r: &mut [u32; 17],
+    d: Operand,
+    a: u32,
+    w: u64,
+) -> u64
+    ensures { λ z. ⌜ gave (ended (answerOf z) (now (r .exit)) (now (q .exit))) (journaled (now (m .exit)) (now (places .exit)) (now (words .exit))) ≡ interpret logging (putResult (cpu (now (r .entry)) (now (q .entry))) (placeAt d a) (unpacked w)) (journaled (now (m .entry)) (now (places .entry)) (now (words .entry))) ⌝ }
+{
+    let x = write_at(m, places, words, q, r, d, a, value_of(w));
+    if 0x1_0000_0000 <= x {
+        x
+    } else {
+        with_flags(r, w);
+        x
+    }
+}
+
+// A packed result to the accumulator.
+fn accumulate_result(
+    m: &mut [u8],
+    places: &mut [u32; 201],
+    words: &mut [[u8; 4]; 200],
+    q: &mut [[u32; 4]; 16],
+    r: &mut [u32; 17],
+    w: u64,
+) -> u64
+    ensures { λ z. ⌜ gave (ended (answerOf z) (now (r .exit)) (now (q .exit))) (journaled (now (m .exit)) (now (places .exit)) (now (words .exit))) ≡ interpret logging (accumulateResult (cpu (now (r .entry)) (now (q .entry))) (unpacked w)) (journaled (now (m .entry)) (now (places .entry)) (now (words .entry))) ⌝ }
+{
+    let x = write_accumulator(m, places, words, q, r, value_of(w));
+    if 0x1_0000_0000 <= x {
+        x
+    } else {
+        with_flags(r, w);
+        x
+    }
+}
+
+// The result of destination y and source x.
+fn compute_with(
+    m: &mut [u8],
+    places: &mut [u32; 201],
+    words: &mut [[u8; 4]; 200],
+    q: &mut [[u32; 4]; 16],
+    r: &mut [u32; 17],
+    op: Operation,
+    d: Operand,
+    a: u32,
+    x: u32,
+    y: u32,
+) -> u64
+    ensures { λ z. ⌜ gave (ended (answerOf z) (now (r .exit)) (now (q .exit))) (journaled (now (m .exit)) (now (places .exit)) (now (words .exit))) ≡ interpret logging (computeWith (cpu (now (r .entry)) (now (q .entry))) op (placeAt d a) x y) (journaled (now (m .entry)) (now (places .entry)) (now (words .entry))) ⌝ }
+{
+    if divides(op) & (x == 0) {
+        raised(1)
+    } else {
+        put_result(m, places, words, q, r, d, a, operate(op, y, x))
+    }
+}
+
+fn accumulate_with(
+    m: &mut [u8],
+    places: &mut [u32; 201],
+    words: &mut [[u8; 4]; 200],
+    q: &mut [[u32; 4]; 16],
+    r: &mut [u32; 17],
+    op: Operation,
+    x: u32,
+    y: u32,
+) -> u64
+    ensures { λ z. ⌜ gave (ended (answerOf z) (now (r .exit)) (now (q .exit))) (journaled (now (m .exit)) (now (places .exit)) (now (words .exit))) ≡ interpret logging (accumulateWith (cpu (now (r .entry)) (now (q .entry))) op x y) (journaled (now (m .entry)) (now (places .entry)) (now (words .entry))) ⌝ }
+{
+    if divides(op) & (x == 0) {
+        raised(1)
+    } else {
+        accumulate_result(m, places, words, q, r, operate(op, y, x))
+    }
+}
+
+// The result to the destination, and what was there to the accumulator.
+fn interlock_with(
+    m: &mut [u8],
+    places: &mut [u32; 201],
+    words: &mut [[u8; 4]; 200],
+    q: &mut [[u32; 4]; 16],
+    r: &mut [u32; 17],
+    op: Operation,
+    d: Operand,
+    a: u32,
+    x: u32,
+    y: u32,
+) -> u64
+    ensures { λ z. ⌜ gave (ended (answerOf z) (now (r .exit)) (now (q .exit))) (journaled (now (m .exit)) (now (places .exit)) (now (words .exit))) ≡ interpret logging (interlockWith (cpu (now (r .entry)) (now (q .entry))) op (placeAt d a) x y) (journaled (now (m .entry)) (now (places .entry)) (now (words .entry))) ⌝ }
+{
+    let w = operate(op, y, x);
+    let e = write_at(m, places, words, q, r, d, a, value_of(w));
+    if 0x1_0000_0000 <= e {
+        e
+    } else {
+        write_accumulator(m, places, words, q, r, y)
+    }
+}
+
+// ADD and its like.
+pub fn compute(
+    m: &mut [u8],
+    places: &mut [u32; 201],
+    words: &mut [[u8; 4]; 200],
+    q: &mut [[u32; 4]; 16],
+    r: &mut [u32; 17],
+    wide: Wide,
+    op: Operation,
+    s: Operand,
+    d: Operand,
+) -> u64
+    ensures { λ z. ⌜ gave (ended (answerOf z) (now (r .exit)) (now (q .exit))) (journaled (now (m .exit)) (now (places .exit)) (now (words .exit))) ≡ interpret logging (computeOf (cpu (now (r .entry)) (now (q .entry))) wide op s d) (journaled (now (m .entry)) (now (places .entry)) (now (words .entry))) ⌝ }
+{
+    let b = read_both(m, places, words, q, r, wide, s, d);
+    if 0x1_0000_0000 <= b.answer {
+        b.answer
+    } else {
+        compute_with(
+            m,
+            places,
+            words,
+            q,
+            r,
+            op,
+            d,
+            b.address,
+            b.source,
+            low32(b.answer),
+        )
+    }
+}
+
+// ADD3 and its like.
+pub fn accumulate(
+    m: &mut [u8],
+    places: &mut [u32; 201],
+    words: &mut [[u8; 4]; 200],
+    q: &mut [[u32; 4]; 16],
+    r: &mut [u32; 17],
+    wide: Wide,
+    op: Operation,
+    s: Operand,
+    d: Operand,
+) -> u64
+    ensures { λ z. ⌜ gave (ended (answerOf z) (now (r .exit)) (now (q .exit))) (journaled (now (m .exit)) (now (places .exit)) (now (words .exit))) ≡ interpret logging (accumulateOf (cpu (now (r .entry)) (now (q .entry))) wide op s d) (journaled (now (m .entry)) (now (places .entry)) (now (words .entry))) ⌝ }
+{
+    let b = read_both(m, places, words, q, r, wide, s, d);
+    if 0x1_0000_0000 <= b.answer {
+        b.answer
+    } else {
+        accumulate_with(m, places, words, q, r, op, b.source, low32(b.answer))
+    }
+}
+
+// ADDI, ANDI, ORI.
+pub fn interlock(
+    m: &mut [u8],
+    places: &mut [u32; 201],
+    words: &mut [[u8; 4]; 200],
+    q: &mut [[u32; 4]; 16],
+    r: &mut [u32; 17],
+    wide: Wide,
+    op: Operation,
+    s: Operand,
+    d: Operand,
+) -> u64
+    ensures { λ z. ⌜ gave (ended (answerOf z) (now (r .exit)) (now (q .exit))) (journaled (now (m .exit)) (now (places .exit)) (now (words .exit))) ≡ interpret logging (interlockOf (cpu (now (r .entry)) (now (q .entry))) wide op s d) (journaled (now (m .entry)) (now (places .entry)) (now (words .entry))) ⌝ }
+{
+    let b = read_both(m, places, words, q, r, wide, s, d);
+    if 0x1_0000_0000 <= b.answer {
+        b.answer
+    } else {
+        interlock_with(
+            m,
+            places,
+            words,
+            q,
+            r,
+            op,
+            d,
+            b.address,
+            b.source,
+            low32(b.answer),
+        )
+    }
+}
+
+// CMP.
+pub fn compare(
+    m: &mut [u8],
+    places: &mut [u32; 201],
+    words: &mut [[u8; 4]; 200],
+    q: &[[u32; 4]; 16],
+    r: &mut [u32; 17],
+    wide: Wide,
+    relation: Relation,
+    s: Operand,
+    d: Operand,
+) -> u64
+    ensures { λ z. ⌜ gave (ended (answerOf z) (now (r .exit)) (now (q .entry))) (journaled (now (m .exit)) (now (places .exit)) (now (words .exit))) ≡ interpret logging (compareOf (cpu (now (r .entry)) (now (q .entry))) wide relation s d) (journaled (now (m .entry)) (now (places .entry)) (now (words .entry))) ⌝ }
+{
+    let b = read_both(m, places, words, q, r, wide, s, d);
+    if 0x1_0000_0000 <= b.answer {
+        b.answer
+    } else {
+        with_flag(r, related(relation, b.source, low32(b.answer)));
+        good(0)
+    }
+}

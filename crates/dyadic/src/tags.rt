@@ -1,0 +1,140 @@
+// TADD and TSUB: a result goes to memory before its flags, and to a register after them.
+use crate::finding::read_both;
+use alu::operations::tagged;
+use bank::registers::write_register;
+use bank::status::tagged_flags;
+use isa::Operand;
+use isa::Wide;
+use machine::registers::register_of;
+use memory::answers::good;
+use memory::answers::low32;
+use operands::places::write_at;
+use word::Tagged;
+ghost use mathlib.Core.Path.{_≡_};
+ghost use Rattle.memory.specs.Answers.{answerOf};
+ghost use Rattle.program.specs.Access.{gave};
+ghost use Rattle.program.specs.Program.{interpret};
+ghost use Rattle.program.specs.Journal.{journaled, logging};
+ghost use Rattle.machine.specs.Status.{cpu};
+ghost use Rattle.access.specs.Code.{ended};
+ghost use Rattle.exec.specs.Dyadic.{writeTagged, storeTagged, tagged as taggedOf, computeTagged};
+ghost use Rattle.operands.specs.Code.{placeAt};
+ghost use Rattle.dyadic.specs.Code.{putTagged};
+
+// To an operand that is no register, found at a.
+fn put_tagged(
+    m: &mut [u8],
+    places: &mut [u32; 201],
+    words: &mut [[u8; 4]; 200],
+    q: &mut [[u32; 4]; 16],
+    r: &mut [u32; 17],
+    t: Tagged,
+    d: Operand,
+    a: u32,
+) -> u64
+    ensures { λ z. ⌜ gave (ended (answerOf z) (now (r .exit)) (now (q .exit))) (journaled (now (m .exit)) (now (places .exit)) (now (words .exit))) ≡ interpret logging (putTagged (cpu (now (r .entry)) (now (q .entry))) t (placeAt d a)) (journaled (now (m .entry)) (now (places .entry)) (now (words .entry))) ⌝ }
+{
+    let x = write_at(m, places, words, q, r, d, a, t.value);
+    if 0x1_0000_0000 <= x {
+        x
+    } else {
+        tagged_flags(r, t);
+        x
+    }
+}
+
+// To an operand found at a.
+fn write_tagged(
+    m: &mut [u8],
+    places: &mut [u32; 201],
+    words: &mut [[u8; 4]; 200],
+    q: &mut [[u32; 4]; 16],
+    r: &mut [u32; 17],
+    t: Tagged,
+    d: Operand,
+    a: u32,
+) -> u64
+    ensures { λ z. ⌜ gave (ended (answerOf z) (now (r .exit)) (now (q .exit))) (journaled (now (m .exit)) (now (places .exit)) (now (words .exit))) ≡ interpret logging (writeTagged (cpu (now (r .entry)) (now (q .entry))) t (placeAt d a)) (journaled (now (m .entry)) (now (places .entry)) (now (words .entry))) ⌝ }
+{
+    match d {
+        Operand::General(_, _) => put_tagged(m, places, words, q, r, t, d, a),
+        Operand::Register(n) => {
+            tagged_flags(r, t);
+            write_register(r, register_of(n), t.value);
+            good(0)
+        }
+    }
+}
+
+// Unless F is set.
+fn store_tagged(
+    m: &mut [u8],
+    places: &mut [u32; 201],
+    words: &mut [[u8; 4]; 200],
+    q: &mut [[u32; 4]; 16],
+    r: &mut [u32; 17],
+    t: Tagged,
+    d: Operand,
+    a: u32,
+) -> u64
+    ensures { λ z. ⌜ gave (ended (answerOf z) (now (r .exit)) (now (q .exit))) (journaled (now (m .exit)) (now (places .exit)) (now (words .exit))) ≡ interpret logging (storeTagged (cpu (now (r .entry)) (now (q .entry))) t (placeAt d a)) (journaled (now (m .entry)) (now (places .entry)) (now (words .entry))) ⌝ }
+{
+    if t.stored {
+        write_tagged(m, places, words, q, r, t, d, a)
+    } else {
+        tagged_flags(r, t);
+        good(0)
+    }
+}
+
+// The result of destination y and source x.
+fn tagged_with(
+    m: &mut [u8],
+    places: &mut [u32; 201],
+    words: &mut [[u8; 4]; 200],
+    q: &mut [[u32; 4]; 16],
+    r: &mut [u32; 17],
+    minus: bool,
+    d: Operand,
+    a: u32,
+    x: u32,
+    y: u32,
+) -> u64
+    ensures { λ z. ⌜ gave (ended (answerOf z) (now (r .exit)) (now (q .exit))) (journaled (now (m .exit)) (now (places .exit)) (now (words .exit))) ≡ interpret logging (storeTagged (cpu (now (r .entry)) (now (q .entry))) (taggedOf minus (cpu (now (r .entry)) (now (q .entry))) y x) (placeAt d a)) (journaled (now (m .entry)) (now (places .entry)) (now (words .entry))) ⌝ }
+{
+    let t = tagged(minus, r[6], y, x);
+    store_tagged(m, places, words, q, r, t, d, a)
+}
+
+// TSUB or TADD.
+pub fn compute_tagged(
+    m: &mut [u8],
+    places: &mut [u32; 201],
+    words: &mut [[u8; 4]; 200],
+    q: &mut [[u32; 4]; 16],
+    r: &mut [u32; 17],
+    wide: Wide,
+    minus: bool,
+    s: Operand,
+    d: Operand,
+) -> u64
+    ensures { λ z. ⌜ gave (ended (answerOf z) (now (r .exit)) (now (q .exit))) (journaled (now (m .exit)) (now (places .exit)) (now (words .exit))) ≡ interpret logging (computeTagged (cpu (now (r .entry)) (now (q .entry))) wide minus s d) (journaled (now (m .entry)) (now (places .entry)) (now (words .entry))) ⌝ }
+{
+    let b = read_both(m, places, words, q, r, wide, s, d);
+    if 0x1_0000_0000 <= b.answer {
+        b.answer
+    } else {
+        tagged_with(
+            m,
+            places,
+            words,
+            q,
+            r,
+            minus,
+            d,
+            b.address,
+            b.source,
+            low32(b.answer),
+        )
+    }
+}

@@ -1,0 +1,3 @@
+pub mod PushLaws
+pub mod SequenceLaws
+pub mod KernelLaws

@@ -1,0 +1,2 @@
+pub mod MonadicLaws
+pub mod NiladicLaws

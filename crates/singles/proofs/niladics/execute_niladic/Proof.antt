@@ -1,0 +1,102 @@
+use Rattle.singles.proofs.NiladicLaws.{is-kret, is-cret, is-nop, is-testv, is-testc, is-clre}
+use Rattle.program.specs.Journal.{journaled}
+use borrow.Author.Needs.{needs}
+use Rattle.singles.proofs.niladics.execute_niladic.Statement.{statement}
+use Rattle.singles.proofs.niladics.execute_niladic.Tie as tie
+
+enum-told : tie.Need-enum-told
+enum-told c = search needs
+
+kret-privileged-requires : tie.Need-kret-privileged-requires
+kret-privileged-requires c κs = search needs
+
+enum-told-2 : tie.Need-enum-told-2
+enum-told-2 c = search needs
+
+cret-privileged-requires : tie.Need-cret-privileged-requires
+cret-privileged-requires c κs = search needs
+
+enum-told-3 : tie.Need-enum-told-3
+enum-told-3 c = search needs
+
+advanced-requires : tie.Need-advanced-requires
+advanced-requires c κs = search needs
+
+enum-told-4 : tie.Need-enum-told-4
+enum-told-4 c = search needs
+
+tested-requires : tie.Need-tested-requires
+tested-requires c κs = search needs
+
+advanced-requires-2 : tie.Need-advanced-requires-2
+advanced-requires-2 c κs = search needs
+
+enum-told-5 : tie.Need-enum-told-5
+enum-told-5 c = search needs
+
+tested-requires-2 : tie.Need-tested-requires-2
+tested-requires-2 c κs = search needs
+
+advanced-requires-3 : tie.Need-advanced-requires-3
+advanced-requires-3 c κs = search needs
+
+enum-told-6 : tie.Need-enum-told-6
+enum-told-6 c = search needs
+
+with-guard-requires : tie.Need-with-guard-requires
+with-guard-requires c κs = search needs
+
+advanced-requires-4 : tie.Need-advanced-requires-4
+advanced-requires-4 c κs = search needs
+
+same-length : tie.Need-same-length
+same-length c = search needs
+
+returns : tie.Need-returns
+returns c = is-kret (c .before .before .before .before .before .before .before .before .before .before .before .args .r .now) (c .before .before .before .before .before .before .before .before .before .before .before .args .q .now) (c .before .before .before .before .before .before .before .before .before .before .before .args .o) (journaled (c .before .before .before .before .before .before .before .before .before .before .before .args .m .now) (c .before .before .before .before .before .before .before .before .before .before .before .args .places .now) (c .before .before .before .before .before .before .before .before .before .before .before .args .words .now)) _ (c .before .before .before .before .before .before .before .before .enum-told .given .1) (c .before .before .kret-privileged .ensures)
+
+same-length-2 : tie.Need-same-length-2
+same-length-2 c = search needs
+
+returns-2 : tie.Need-returns-2
+returns-2 c = is-cret (c .before .before .before .before .before .before .before .before .before .before .before .args .r .now) (c .before .before .before .before .before .before .before .before .before .before .before .args .q .now) (c .before .before .before .before .before .before .before .before .before .before .before .args .o) (journaled (c .before .before .before .before .before .before .before .before .before .before .before .args .m .now) (c .before .before .before .before .before .before .before .before .before .before .before .args .places .now) (c .before .before .before .before .before .before .before .before .before .before .before .args .words .now)) _ (c .before .before .before .before .before .before .before .before .enum-told2 .given .1) (c .before .before .cret-privileged .ensures)
+
+returns-3 : tie.Need-returns-3
+returns-3 c = is-nop (c .before .before .before .before .before .args .r .now) (c .before .before .before .before .before .args .q .now) (c .before .before .before .before .before .args .o) (journaled (c .before .before .before .before .before .args .m .now) (c .before .before .before .before .before .args .places .now) (c .before .before .before .before .before .args .words .now)) (c .before .before .enum-told3 .given .1) _ (c .advanced .ensures)
+
+returns-4 : tie.Need-returns-4
+returns-4 c = is-testv (c .before .before .before .before .before .before .before .args .r .now) (c .before .before .before .before .before .before .before .args .q .now) (c .before .before .before .before .before .before .before .args .o) (journaled (c .before .before .before .before .before .before .before .args .m .now) (c .before .before .before .before .before .before .before .args .places .now) (c .before .before .before .before .before .before .before .args .words .now)) _ _ (c .advanced2 .ensures) (c .before .before .before .before .enum-told4 .given .1) (c .before .before .tested .ensures)
+
+returns-5 : tie.Need-returns-5
+returns-5 c = is-testc (c .before .before .before .before .before .before .before .args .r .now) (c .before .before .before .before .before .before .before .args .q .now) (c .before .before .before .before .before .before .before .args .o) (journaled (c .before .before .before .before .before .before .before .args .m .now) (c .before .before .before .before .before .before .before .args .places .now) (c .before .before .before .before .before .before .before .args .words .now)) _ _ (c .advanced3 .ensures) (c .before .before .before .before .enum-told5 .given .1) (c .before .before .tested2 .ensures)
+
+returns-6 : tie.Need-returns-6
+returns-6 c = is-clre (c .before .before .before .before .before .before .before .args .r .now) (c .before .before .before .before .before .before .before .args .q .now) (c .before .before .before .before .before .before .before .args .o) (journaled (c .before .before .before .before .before .before .before .args .m .now) (c .before .before .before .before .before .before .before .args .places .now) (c .before .before .before .before .before .before .before .args .words .now)) _ _ (c .advanced4 .ensures) (c .before .before .before .before .enum-told6 .given .1) (c .before .before .with-guard .ensures)
+
+pub execute-niladic-spec : {M : Type 1} → statement M
+execute-niladic-spec =
+    tie.close
+    (tie.spec
+    enum-told
+    kret-privileged-requires
+    enum-told-2
+    cret-privileged-requires
+    enum-told-3
+    advanced-requires
+    enum-told-4
+    tested-requires
+    advanced-requires-2
+    enum-told-5
+    tested-requires-2
+    advanced-requires-3
+    enum-told-6
+    with-guard-requires
+    advanced-requires-4
+    same-length
+    returns
+    same-length-2
+    returns-2
+    returns-3
+    returns-4
+    returns-5
+    returns-6)

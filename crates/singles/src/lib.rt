@@ -1,0 +1,3 @@
+// Instructions of one operand and of none, by what they do.
+pub mod monadics;
+pub mod niladics;

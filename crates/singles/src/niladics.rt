@@ -1,0 +1,84 @@
+// Instructions without operands.
+use bank::flow::advanced;
+use bank::status::tested;
+use bank::status::with_guard;
+use exec::Niladic;
+use machine::status::is_user;
+use memory::answers::raised;
+ghost use mathlib.Core.Path.{_≡_};
+ghost use Rattle.memory.specs.Answers.{answerOf};
+ghost use Rattle.program.specs.Access.{gave};
+ghost use Rattle.program.specs.Program.{interpret};
+ghost use Rattle.program.specs.Journal.{journaled, logging};
+ghost use Rattle.machine.specs.Status.{cpu};
+ghost use Rattle.access.specs.Code.{ended};
+ghost use Rattle.exec.specs.Frames.{kret, cret, privileged};
+ghost use Rattle.exec.specs.Execute.{executeNiladic};
+
+// At user level it is exception 5.
+fn kret_privileged(
+    m: &mut [u8],
+    places: &mut [u32; 201],
+    words: &mut [[u8; 4]; 200],
+    q: &[[u32; 4]; 16],
+    r: &mut [u32; 17],
+) -> u64
+    ensures { λ x. ⌜ gave (ended (answerOf x) (now (r .exit)) (now (q .entry))) (journaled (now (m .exit)) (now (places .exit)) (now (words .exit))) ≡ interpret logging (privileged (cpu (now (r .entry)) (now (q .entry))) (kret (cpu (now (r .entry)) (now (q .entry))))) (journaled (now (m .entry)) (now (places .entry)) (now (words .entry))) ⌝ }
+{
+    if is_user(r) {
+        raised(5)
+    } else {
+        frames::kernel::kret(m, places, words, q, r)
+    }
+}
+
+fn cret_privileged(
+    m: &mut [u8],
+    places: &mut [u32; 201],
+    words: &mut [[u8; 4]; 200],
+    q: &mut [[u32; 4]; 16],
+    r: &mut [u32; 17],
+) -> u64
+    ensures { λ x. ⌜ gave (ended (answerOf x) (now (r .exit)) (now (q .exit))) (journaled (now (m .exit)) (now (places .exit)) (now (words .exit))) ≡ interpret logging (privileged (cpu (now (r .entry)) (now (q .entry))) (cret (cpu (now (r .entry)) (now (q .entry))))) (journaled (now (m .entry)) (now (places .entry)) (now (words .entry))) ⌝ }
+{
+    if is_user(r) {
+        raised(5)
+    } else {
+        stacks::returns::cret(m, places, words, q, r)
+    }
+}
+
+pub fn execute_niladic(
+    m: &mut [u8],
+    places: &mut [u32; 201],
+    words: &mut [[u8; 4]; 200],
+    q: &mut [[u32; 4]; 16],
+    r: &mut [u32; 17],
+    o: Niladic,
+) -> u64
+    ensures { λ x. ⌜ gave (ended (answerOf x) (now (r .exit)) (now (q .exit))) (journaled (now (m .exit)) (now (places .exit)) (now (words .exit))) ≡ interpret logging (executeNiladic (cpu (now (r .entry)) (now (q .entry))) o) (journaled (now (m .entry)) (now (places .entry)) (now (words .entry))) ⌝ }
+{
+    match o {
+        Niladic::Kret => kret_privileged(m, places, words, q, r),
+        Niladic::Cret => cret_privileged(m, places, words, q, r),
+        Niladic::Nop => {
+            advanced(r, 1);
+            0
+        }
+        Niladic::Testv => {
+            tested(r, 6);
+            advanced(r, 1);
+            0
+        }
+        Niladic::Testc => {
+            tested(r, 5);
+            advanced(r, 1);
+            0
+        }
+        Niladic::Clre => {
+            with_guard(r, false);
+            advanced(r, 1);
+            0
+        }
+    }
+}

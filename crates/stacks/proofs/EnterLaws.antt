@@ -1,0 +1,182 @@
+-- The ways out of ENTER.
+-- Assumes nothing.
+use Prim.Native.Nat.{ℕ, _*_, _/_, _%_, _^_, _<_, _≤_}
+use mathlib.Core.Path.{_≡_, refl, sym, ap, _∙_}
+use mathlib.Core.Bool.{Bool, true, false}
+use lib.ListN.{getD, set}
+use borrow.Author.Tests.{lt-ltb, le-ltb}
+use Rattle.word.specs.Sums.{plusOf, minusOf}
+use Rattle.isa.specs.declared.MonadicMode.{MonadicMode}
+use Rattle.isa.specs.Legal.{isStack}
+use Rattle.memory.specs.Answers.{answerOf}
+use Rattle.program.specs.Access.{Gave, gave}
+use Rattle.program.specs.Program.{Program, interpret}
+use Rattle.program.specs.Journal.{Journaled, logging}
+use Rattle.handler.specs.Followed.{regimeFor}
+use Rattle.machine.specs.Registers.{Bank, word, msp}
+use Rattle.machine.specs.Cache.{Cache}
+use Rattle.machine.specs.Status.{Cpu, cpu, with, isUser, isVirtual, spCurrent, cacheOn, regime}
+use Rattle.access.specs.Parts.{Out, _>>=_, done}
+use Rattle.access.specs.Data.{checkStore}
+use Rattle.access.specs.Code.{ended}
+use Rattle.access.specs.Moves.{flush}
+use Rattle.exec.specs.Control.{withCsp, withGuard, advanced}
+use Rattle.exec.specs.Stack.{stackTarget, checkMsp, quadWords, clipped, enterPlain, enterUncached, enterEmpty, enterOffset, enterAt, enter}
+use Rattle.control.proofs.Ways.{finished, went-on, stopped-there, value-on, value-stopped}
+use Rattle.control.proofs.WordLaws.{Valued}
+use Rattle.control.proofs.FlowLaws.{Made}
+use Rattle.control.specs.Code.{valued}
+use Rattle.stacks.specs.Code.{enterClipped}
+
+-- ---- nothing moved: s is the bank after the check, d with the stack pointer set
+
+module _ (b : Bank) (q : Cache) (target x : ℕ) (s : Bank) (t u : Journaled) (e : Valued b q x s (checkStore (cpu b q) target) t u) where
+  abbrev then-csp : ℕ → Program (Out Cpu)
+  then-csp _ = done (withCsp (cpu b q) target)
+
+  abbrev then-both : ℕ → Program (Out Cpu)
+  then-both _ = done (with (withCsp (cpu b q) target) msp target)
+
+  pub plain-stopped : 2 ^ 32 ≤ x → gave (ended (answerOf x) s q) u ≡ interpret logging (enterPlain (cpu b q) target) t
+  unfolding enterPlain
+  plain-stopped h = value-stopped (checkStore (cpu b q) target) x s q t u (e .0) then-csp h
+
+  pub uncached-stopped : 2 ^ 32 ≤ x → gave (ended (answerOf x) s q) u ≡ interpret logging (enterUncached (cpu b q) target) t
+  unfolding enterUncached
+  uncached-stopped h = value-stopped (checkStore (cpu b q) target) x s q t u (e .0) then-both h
+
+  module _ (h : x < 2 ^ 32) (d : Bank) (f : Made s d (λ c. withCsp c target)) where
+    set-down : cpu d q ≡ withCsp (cpu b q) target
+    set-down = f q ∙ ap (λ (n : Bank). withCsp (cpu n q) target) (e .1 h)
+
+    pub plain-done : gave (ended (answerOf x) d q) u ≡ interpret logging (enterPlain (cpu b q) target) t
+    unfolding enterPlain interpret
+    plain-done = finished x d q (withCsp (cpu b q) target) u h set-down ∙ sym (value-on (checkStore (cpu b q) target) x s q t u (e .0) then-csp h)
+
+    pub uncached-done : gave (ended (answerOf x) (set d 4 target) q) u ≡ interpret logging (enterUncached (cpu b q) target) t
+    unfolding enterUncached interpret
+    uncached-done =
+        finished x (set d 4 target) q (with (withCsp (cpu b q) target) msp target) u h (ap (λ (c : Cpu). with c msp target) set-down)
+        ∙ sym (value-on (checkStore (cpu b q) target) x s q t u (e .0) then-both h)
+
+-- ---- after the flush: d is the bank that it left
+
+module _ (b : Bank) (q : Cache) (target x : ℕ) (d : Bank) (t u : Journaled) where
+  module _ (e : gave (ended (answerOf x) d q) u ≡ interpret logging (flush true target quadWords (cpu b q)) t) where
+    abbrev then-empty : Cpu → Program (Out Cpu)
+    then-empty c = enterUncached c target
+
+    pub empty-stopped : 2 ^ 32 ≤ x → gave (ended (answerOf x) d q) u ≡ interpret logging (enterEmpty (cpu b q) target) t
+    unfolding enterEmpty enterUncached
+    empty-stopped h = stopped-there (flush true target quadWords (cpu b q)) then-empty x d q t u e h
+
+    pub empty-done : x < 2 ^ 32 → (g : Gave Journaled (Out Cpu)) → g ≡ interpret logging (enterUncached (cpu d q) target) u → g ≡ interpret logging (enterEmpty (cpu b q) target) t
+    unfolding enterEmpty enterUncached
+    empty-done h g f = f ∙ sym (went-on (flush true target quadWords (cpu b q)) then-empty x d q t u e h)
+
+  module _ (e : gave (ended (answerOf x) d q) u ≡ interpret logging (flush false target quadWords (cpu b q)) t) where
+    abbrev then-clipped : Cpu → Program (Out Cpu)
+    then-clipped c = enterClipped c target (word b msp)
+
+    pub offset-stopped : 2 ^ 32 ≤ x → gave (ended (answerOf x) d q) u ≡ interpret logging (enterOffset (cpu b q) target) t
+    unfolding enterOffset enterClipped
+    offset-stopped h = stopped-there (flush false target quadWords (cpu b q)) then-clipped x d q t u e h
+
+    pub offset-done : x < 2 ^ 32 → (g : Gave Journaled (Out Cpu)) → g ≡ interpret logging (enterClipped (cpu d q) target (word b msp)) u → g ≡ interpret logging (enterOffset (cpu b q) target) t
+    unfolding enterOffset enterClipped
+    offset-done h g f = f ∙ sym (went-on (flush false target quadWords (cpu b q)) then-clipped x d q t u e h)
+
+-- ---- MSP clipped to the cache's size
+
+module _ (old m target a : ℕ) where
+  pub clipped-top : (p : ℕ) → a ≡ minusOf old target → 256 < a → p ≡ plusOf target 256 → p < m → p ≡ clipped old m target
+  clipped-top p ea h ep k = rw (← ea, lt-ltb 256 a h, ← ep, lt-ltb p m k) refl
+
+  pub clipped-same : (p : ℕ) → a ≡ minusOf old target → 256 < a → p ≡ plusOf target 256 → m ≤ p → m ≡ clipped old m target
+  clipped-same p ea h ep k = rw (← ea, lt-ltb 256 a h, ← ep, le-ltb p m k) refl
+
+  pub clipped-low : a ≡ minusOf old target → a ≤ 256 → m ≡ clipped old m target
+  clipped-low ea h = rw (← ea, le-ltb 256 a h) refl
+
+module _ (b : Bank) (q : Cache) (target old new : ℕ) (en : new ≡ clipped old (word b msp) target) (x : ℕ) (s : Bank) (t u : Journaled) (e : Valued b q x s (checkStore (cpu b q) target) t u) where
+  abbrev then-set : ℕ → ℕ → Program (Out Cpu)
+  then-set n _ = done (with (withCsp (cpu b q) target) msp n)
+
+  abbrev then-msp : ℕ → ℕ → Program (Out Cpu)
+  then-msp n _ = checkMsp (cpu b q) (regime b) old n >>= then-set n
+
+  pub clipped-first : 2 ^ 32 ≤ x → gave (ended (answerOf x) s q) u ≡ interpret logging (enterClipped (cpu b q) target old) t
+  unfolding enterClipped
+  clipped-first h = value-stopped (checkStore (cpu b q) target) x s q t u (e .0) (then-msp (clipped old (word b msp) target)) h
+
+  module _ (h : x < 2 ^ 32) (y z : Bool) (ey : y ≡ isUser s) (ez : z ≡ isVirtual s) (v : ℕ) (d : Bank) (w : Journaled)
+      (f : Valued s q v d (checkMsp (cpu s q) (regimeFor (getD s 9 0) y z) old new) u w) where
+    same : interpret logging (checkMsp (cpu s q) (regimeFor (getD s 9 0) y z) old new) u ≡ interpret logging (checkMsp (cpu b q) (regime b) old new) u
+    same = rw (ey, ez, e .1 h) refl
+
+    second : gave (valued (answerOf v) d q) w ≡ interpret logging (checkMsp (cpu b q) (regime b) old new) u
+    second = f .0 ∙ same
+
+    first-checked : interpret logging (enterClipped (cpu b q) target old) t ≡ interpret logging (then-msp new (x % 2 ^ 32)) u
+    unfolding enterClipped
+    first-checked = rw en (value-on (checkStore (cpu b q) target) x s q t u (e .0) (then-msp (clipped old (word b msp) target)) h)
+
+    pub clipped-second : 2 ^ 32 ≤ v → gave (ended (answerOf v) d q) w ≡ interpret logging (enterClipped (cpu b q) target old) t
+    clipped-second k = value-stopped (checkMsp (cpu b q) (regime b) old new) v d q u w second (then-set new) k ∙ sym first-checked
+
+    pub clipped-done : v < 2 ^ 32 → (r : Bank) → Made d r (λ c. withCsp c target) → gave (ended (answerOf v) (set r 4 new) q) w ≡ interpret logging (enterClipped (cpu b q) target old) t
+    unfolding interpret
+    clipped-done k r g =
+        finished v (set r 4 new) q (with (withCsp (cpu b q) target) msp new) w k (ap (λ (c : Cpu). with c msp new) (g q ∙ ap (λ (n : Bank). withCsp (cpu n q) target) (f .1 k ∙ e .1 h)))
+        ∙ sym (first-checked ∙ value-on (checkMsp (cpu b q) (regime b) old new) v d q u w second (then-set new) k)
+
+-- ---- which of them
+
+module _ (b : Bank) (q : Cache) (k : MonadicMode) (target : ℕ) (t : Journaled) (g : Gave Journaled (Out Cpu)) (z : Bool) (ez : z ≡ spCurrent b) where
+  pub at-plain : z ≡ false → g ≡ interpret logging (enterPlain (cpu b q) target) t → g ≡ interpret logging (enterAt (cpu b q) k target) t
+  unfolding enterAt
+  at-plain h e = rw (sym ez ∙ h) e
+
+  module _ (h : z ≡ true) (y : Bool) (ey : y ≡ cacheOn b) where
+    pub at-uncached : y ≡ false → g ≡ interpret logging (enterUncached (cpu b q) target) t → g ≡ interpret logging (enterAt (cpu b q) k target) t
+    unfolding enterAt
+    at-uncached l e = rw (sym ey ∙ l, sym ez ∙ h) e
+
+    module _ (l : y ≡ true) (i : Bool) (ei : i ≡ isStack k) where
+      pub at-offset : i ≡ true → g ≡ interpret logging (enterOffset (cpu b q) target) t → g ≡ interpret logging (enterAt (cpu b q) k target) t
+      unfolding enterAt
+      at-offset j e = rw (sym ey ∙ l, sym ez ∙ h, sym ei ∙ j) e
+
+      pub at-empty : i ≡ false → g ≡ interpret logging (enterEmpty (cpu b q) target) t → g ≡ interpret logging (enterAt (cpu b q) k target) t
+      unfolding enterAt
+      at-empty j e = rw (sym ey ∙ l, sym ez ∙ h, sym ei ∙ j) e
+
+-- ---- the whole
+
+module _ (b : Bank) (q : Cache) (k : MonadicMode) (v n x : ℕ) (s : Bank) (t u : Journaled) (e : Valued b q x s (stackTarget (cpu b q) k v) t u) where
+  abbrev then-guard : Cpu → Program (Out Cpu)
+  then-guard c = done (advanced (withGuard c true) n)
+
+  abbrev then-enter : ℕ → Program (Out Cpu)
+  then-enter a = enterAt (cpu b q) k (a / 16 * 16) >>= then-guard
+
+  pub enter-first : 2 ^ 32 ≤ x → gave (ended (answerOf x) s q) u ≡ interpret logging (enter (cpu b q) k v n) t
+  unfolding enter
+  enter-first h = value-stopped (stackTarget (cpu b q) k v) x s q t u (e .0) then-enter h
+
+  module _ (h : x < 2 ^ 32) (a : ℕ) (ea : a ≡ x % 2 ^ 32) (y : ℕ) (d : Bank) (w : Journaled) (f : gave (ended (answerOf y) d q) w ≡ interpret logging (enterAt (cpu s q) k (a / 16 * 16)) u) where
+    same-target : interpret logging (enterAt (cpu s q) k (a / 16 * 16) >>= then-guard) u ≡ interpret logging (then-enter (x % 2 ^ 32)) u
+    same-target = rw (e .1 h, ea) refl
+
+    targeted : interpret logging (enter (cpu b q) k v n) t ≡ interpret logging (enterAt (cpu s q) k (a / 16 * 16) >>= then-guard) u
+    unfolding enter
+    targeted = value-on (stackTarget (cpu b q) k v) x s q t u (e .0) then-enter h ∙ sym same-target
+
+    pub enter-second : 2 ^ 32 ≤ y → gave (ended (answerOf y) d q) w ≡ interpret logging (enter (cpu b q) k v n) t
+    enter-second l = stopped-there (enterAt (cpu s q) k (a / 16 * 16)) then-guard y d q u w f l ∙ sym targeted
+
+    pub enter-done : y < 2 ^ 32 → (r : Bank) → Made d r (λ c. withGuard c true) → (i : Bank) → Made r i (λ c. advanced c n) → gave (ended (answerOf y) i q) w ≡ interpret logging (enter (cpu b q) k v n) t
+    unfolding interpret
+    enter-done l r er i ei =
+        finished y i q (advanced (withGuard (cpu d q) true) n) w l (ei q ∙ ap (λ (c : Cpu). advanced c n) (er q))
+        ∙ sym (targeted ∙ went-on (enterAt (cpu s q) k (a / 16 * 16)) then-guard y d q u w f l)

@@ -1,0 +1,4 @@
+pub mod TargetLaws
+pub mod EnterLaws
+pub mod CatchLaws
+pub mod ReturnLaws

@@ -1,0 +1,138 @@
+-- The ways out of CRET.
+-- Assumes nothing.
+use Prim.Native.Nat.{ℕ, _%_, _^_, _<_, _≤_}
+use mathlib.Core.Path.{_≡_, refl, sym, ap, _∙_}
+use mathlib.Core.Bool.{Bool, true, false}
+use native.Mathlib.Omega.{arith}
+use lib.ListN.{getD, set}
+use Rattle.bits.specs.Bits.{bitOf}
+use Rattle.word.specs.declared.Width.the-variants.{Word}
+use Rattle.word.specs.Sums.{plusOf}
+use Rattle.memory.specs.Answers.{answerOf}
+use Rattle.program.specs.Access.{read, Gave, gave}
+use Rattle.program.specs.Program.{Program, interpret}
+use Rattle.program.specs.Journal.{Journaled, logging}
+use Rattle.handler.specs.Followed.{regimeFor}
+use Rattle.machine.specs.Registers.{Bank, word, kept, config, isp, msp, sp}
+use Rattle.machine.specs.Cache.{Cache}
+use Rattle.machine.specs.Status.{Cpu, cpu, with, isUser, kernelRegime}
+use Rattle.access.specs.Parts.{Out, _>>=_, done}
+use Rattle.access.specs.Data.{readFrame}
+use Rattle.access.specs.Code.{ended}
+use Rattle.exec.specs.Stack.{catchTo}
+use Rattle.exec.specs.Frames.{restoredRegime, cretFill, cret, returned}
+use Rattle.control.proofs.Ways.{finished, went-on, stopped-there, loaded-on, load-stopped}
+use Rattle.control.proofs.FlowLaws.{Made}
+use Rattle.stacks.specs.Code.{cretCaught, cretFrom, cretAfter}
+
+-- ---- the cache filled
+
+module _ (b : Bank) (q : Cache) (n p : ℕ) (y z : Bool) (ey : y ≡ isUser b) (ez : z ≡ bitOf p 16) (x : ℕ) (d : Bank) (c : Cache) (t u : Journaled)
+    (e : gave (ended (answerOf x) d c) u ≡ interpret logging (catchTo (cpu b q) (regimeFor (getD b 9 0) y z) n) t) where
+  abbrev then-msp : Cpu → Program (Out Cpu)
+  then-msp f = done (with f msp n)
+
+  caught : gave (ended (answerOf x) d c) u ≡ interpret logging (catchTo (cpu b q) (restoredRegime (cpu b q) p) n) t
+  caught = e ∙ same
+    where
+      same : interpret logging (catchTo (cpu b q) (regimeFor (getD b 9 0) y z) n) t ≡ interpret logging (catchTo (cpu b q) (restoredRegime (cpu b q) p) n) t
+      same = rw (ey, ez) refl
+
+  pub caught-stopped : 2 ^ 32 ≤ x → gave (ended (answerOf x) d c) u ≡ interpret logging (cretCaught (cpu b q) n p) t
+  unfolding cretCaught
+  caught-stopped h = stopped-there (catchTo (cpu b q) (restoredRegime (cpu b q) p) n) then-msp x d c t u caught h
+
+  pub caught-done : x < 2 ^ 32 → gave (ended (answerOf x) (set d 4 n) c) u ≡ interpret logging (cretCaught (cpu b q) n p) t
+  unfolding cretCaught interpret
+  caught-done h =
+      finished x (set d 4 n) c (with (cpu d c) msp n) u h refl ∙ sym (went-on (catchTo (cpu b q) (restoredRegime (cpu b q) p) n) then-msp x d c t u caught h)
+
+-- ---- whether it is filled
+
+module _ (b : Bank) (q : Cache) (m p : ℕ) (t : Journaled) (n : ℕ) (en : n ≡ kept msp m) (y : Bool) (ey : y ≡ bitOf p 9) where
+  pub fill-left : y ≡ false → gave (ended (answerOf 0) (set b 4 n) q) t ≡ interpret logging (cretFill (cpu b q) m p) t
+  unfolding cretFill interpret
+  fill-left h = rw (sym ey ∙ h, ← en) (finished 0 (set b 4 n) q (with (cpu b q) msp n) t (omega arith) refl)
+
+  module _ (h : y ≡ true) (z : Bool) (ez : z ≡ bitOf (word b config) 18) where
+    pub fill-off : z ≡ false → gave (ended (answerOf 0) b q) t ≡ interpret logging (cretFill (cpu b q) m p) t
+    unfolding cretFill interpret
+    fill-off k = rw (sym ey ∙ h, sym ez ∙ k) (finished 0 b q (cpu b q) t (omega arith) refl)
+
+    pub fill-on : z ≡ true → (g : Gave Journaled (Out Cpu)) → g ≡ interpret logging (cretCaught (cpu b q) n p) t → g ≡ interpret logging (cretFill (cpu b q) m p) t
+    unfolding cretFill cretCaught
+    fill-on k g f = rw (sym ey ∙ h, sym ez ∙ k, ← en) f
+
+-- ---- the registers restored
+
+module _ (b : Bank) (q : Cache) (s m a p n : ℕ) (en : n ≡ kept sp s) (x : ℕ) (d : Bank) (c : Cache) (t u : Journaled)
+    (e : gave (ended (answerOf x) d c) u ≡ interpret logging (cretFill (cpu (set (set b 8 n) 4 n) q) m p) t) where
+  abbrev then-return : Cpu → Program (Out Cpu)
+  then-return f = done (returned f a p)
+
+  started : gave (ended (answerOf x) d c) u ≡ interpret logging (cretFill (with (with (cpu b q) sp (kept sp s)) msp (kept sp s)) m p) t
+  started = e ∙ ap (λ (i : ℕ). interpret logging (cretFill (cpu (set (set b 8 i) 4 i) q) m p) t) en
+
+  pub from-stopped : 2 ^ 32 ≤ x → gave (ended (answerOf x) d c) u ≡ interpret logging (cretFrom (cpu b q) s m a p) t
+  unfolding cretFrom
+  from-stopped h = stopped-there (cretFill (with (with (cpu b q) sp (kept sp s)) msp (kept sp s)) m p) then-return x d c t u started h
+
+  pub from-done : x < 2 ^ 32 → (f : Bank) → Made d f (λ i. returned i a p) → gave (ended (answerOf x) f c) u ≡ interpret logging (cretFrom (cpu b q) s m a p) t
+  unfolding cretFrom interpret
+  from-done h f ef =
+      finished x f c (returned (cpu d c) a p) u h (ef c) ∙ sym (went-on (cretFill (with (with (cpu b q) sp (kept sp s)) msp (kept sp s)) m p) then-return x d c t u started h)
+
+-- ---- the frame's words: PC and PSW
+
+module _ (b : Bank) (q : Cache) (s m : ℕ) (i : ℕ) (ei : i ≡ plusOf (word b isp) 8) (x : ℕ) (t u : Journaled) (e : gave (answerOf x) u ≡ logging (read (kernelRegime b) Word i) t) where
+  abbrev then-from : ℕ → ℕ → Program (Out Cpu)
+  then-from a p = cretFrom (cpu b q) s m a p
+
+  abbrev then-psw : ℕ → ℕ → Program (Out Cpu)
+  then-psw j a = readFrame (cpu b q) j >>= then-from a
+
+  pub after-first : 2 ^ 32 ≤ x → gave (ended (answerOf (2 ^ 32)) b q) u ≡ interpret logging (cretAfter (cpu b q) s m) t
+  unfolding cretAfter
+  after-first h = rw (← ei) (load-stopped b q x i t u (then-psw (plusOf (word b isp) 12)) e h)
+
+  module _ (h : x < 2 ^ 32) (j : ℕ) (ej : j ≡ plusOf (word b isp) 12) (y : ℕ) (w : Journaled) (f : gave (answerOf y) w ≡ logging (read (kernelRegime b) Word j) u) where
+    first-loaded : interpret logging (cretAfter (cpu b q) s m) t ≡ interpret logging (then-psw j (x % 2 ^ 32)) u
+    unfolding cretAfter
+    first-loaded = rw (← ei, ← ej) (loaded-on b q x i t u (then-psw j) e h)
+
+    pub after-second : 2 ^ 32 ≤ y → gave (ended (answerOf (2 ^ 32)) b q) w ≡ interpret logging (cretAfter (cpu b q) s m) t
+    after-second k = load-stopped b q y j u w (then-from (x % 2 ^ 32)) f k ∙ sym first-loaded
+
+    pub after-done : y < 2 ^ 32 → (a p : ℕ) → a ≡ x % 2 ^ 32 → p ≡ y % 2 ^ 32 → (g : Gave Journaled (Out Cpu)) → g ≡ interpret logging (cretFrom (cpu b q) s m a p) w
+        → g ≡ interpret logging (cretAfter (cpu b q) s m) t
+    after-done k a p ea ep g z = z ∙ same ∙ sym (first-loaded ∙ loaded-on b q y j u w (then-from (x % 2 ^ 32)) f k)
+      where
+        same : interpret logging (cretFrom (cpu b q) s m a p) w ≡ interpret logging (cretFrom (cpu b q) s m (x % 2 ^ 32) (y % 2 ^ 32)) w
+        same = rw (ea, ep) refl
+
+-- ---- the frame's words: SP and MSP
+
+module _ (b : Bank) (q : Cache) (x : ℕ) (t u : Journaled) (e : gave (answerOf x) u ≡ logging (read (kernelRegime b) Word (word b isp)) t) where
+  abbrev then-after : ℕ → ℕ → Program (Out Cpu)
+  then-after s m = cretAfter (cpu b q) s m
+
+  abbrev then-second : ℕ → ℕ → Program (Out Cpu)
+  then-second j s = readFrame (cpu b q) j >>= then-after s
+
+  pub cret-first : 2 ^ 32 ≤ x → gave (ended (answerOf (2 ^ 32)) b q) u ≡ interpret logging (cret (cpu b q)) t
+  unfolding cret cretAfter cretFrom
+  cret-first h = load-stopped b q x (word b isp) t u (then-second (plusOf (word b isp) 4)) e h
+
+  module _ (h : x < 2 ^ 32) (j : ℕ) (ej : j ≡ plusOf (word b isp) 4) (y : ℕ) (w : Journaled) (f : gave (answerOf y) w ≡ logging (read (kernelRegime b) Word j) u) where
+    sp-loaded : interpret logging (cret (cpu b q)) t ≡ interpret logging (then-second j (x % 2 ^ 32)) u
+    unfolding cret cretAfter cretFrom
+    sp-loaded = rw ej (loaded-on b q x (word b isp) t u (then-second (plusOf (word b isp) 4)) e h)
+
+    pub cret-second : 2 ^ 32 ≤ y → gave (ended (answerOf (2 ^ 32)) b q) w ≡ interpret logging (cret (cpu b q)) t
+    cret-second k = load-stopped b q y j u w (then-after (x % 2 ^ 32)) f k ∙ sym sp-loaded
+
+    pub cret-done : y < 2 ^ 32 → (s m : ℕ) → s ≡ x % 2 ^ 32 → m ≡ y % 2 ^ 32 → (g : Gave Journaled (Out Cpu)) → g ≡ interpret logging (cretAfter (cpu b q) s m) w → g ≡ interpret logging (cret (cpu b q)) t
+    cret-done k s m es em g z = z ∙ same ∙ sym (sp-loaded ∙ loaded-on b q y j u w (then-after (x % 2 ^ 32)) f k)
+      where
+        same : interpret logging (cretAfter (cpu b q) s m) w ≡ interpret logging (cretAfter (cpu b q) (x % 2 ^ 32) (y % 2 ^ 32)) w
+        same = rw (es, em) refl

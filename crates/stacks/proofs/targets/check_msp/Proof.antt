@@ -1,0 +1,24 @@
+use Rattle.stacks.proofs.TargetLaws.{msp-unchecked, msp-checked}
+use Rattle.handler.specs.Followed.{regimeFor}
+use Rattle.program.specs.Journal.{journaled}
+use borrow.Author.Needs.{needs}
+use Rattle.stacks.proofs.targets.check_msp.Statement.{statement}
+use Rattle.stacks.proofs.targets.check_msp.Tie as tie
+
+good-requires : tie.Need-good-requires
+good-requires c κs = search needs
+
+check-requires : tie.Need-check-requires
+check-requires c κs = search needs
+
+returns : tie.Need-returns
+returns c = msp-unchecked (c .before .before .before .args .r .now) (c .before .before .before .args .q .now) (regimeFor (c .before .before .before .args .stb) (c .before .before .before .args .user) (c .before .before .before .args .translated)) (c .before .before .before .args .old) (c .before .before .before .args .new) _ (journaled (c .before .before .before .args .m .now) (c .before .before .before .args .places .now) (c .before .before .before .args .words .now)) (c .before .if1 .taken) (c .good2 .ensures)
+
+same-length : tie.Need-same-length
+same-length c = (c .before .before .check .kept .0)
+
+returns-2 : tie.Need-returns-2
+returns-2 c = msp-checked (c .before .before .before .before .before .before .before .before .before .args .r .now) (c .before .before .before .before .before .before .before .before .before .args .q .now) (c .before .before .before .before .before .before .before .before .before .args .new) _ _ (journaled (c .before .before .before .before .before .before .before .before .before .args .m .now) (c .before .before .before .before .before .before .before .before .before .args .places .now) (c .before .before .before .before .before .before .before .before .before .args .words .now)) _ (regimeFor (c .before .before .before .before .before .before .before .before .before .args .stb) (c .before .before .before .before .before .before .before .before .before .args .user) (c .before .before .before .before .before .before .before .before .before .args .translated)) (c .before .before .before .before .before .before .before .before .before .args .old) (c .before .before .before .before .before .before .before .if1 .left) (c .before .before .check .ensures)
+
+pub check-msp-spec : {M : Type 1} → statement M
+check-msp-spec = tie.close (tie.spec good-requires check-requires returns same-length returns-2)

@@ -1,0 +1,34 @@
+use Rattle.stacks.proofs.TargetLaws.{target-checked}
+use Rattle.program.specs.Journal.{journaled}
+use borrow.Author.Needs.{needs}
+use Rattle.stacks.proofs.targets.check_target.Statement.{statement}
+use Rattle.stacks.proofs.targets.check_target.Tie as tie
+
+element-copy-out-stb : tie.Need-element-copy-out-stb
+element-copy-out-stb c = search needs
+
+is-user-requires : tie.Need-is-user-requires
+is-user-requires c κs = search needs
+
+is-virtual-requires : tie.Need-is-virtual-requires
+is-virtual-requires c κs = search needs
+
+check-requires : tie.Need-check-requires
+check-requires c κs = search needs
+
+same-length : tie.Need-same-length
+same-length c = (c .before .before .check .kept .0)
+
+returns : tie.Need-returns
+returns c = target-checked (c .before .before .before .before .before .before .before .before .before .before .before .before .before .args .r .now) (c .before .before .before .before .before .before .before .before .before .before .before .before .before .args .q .now) (c .before .before .before .before .before .before .before .before .before .before .before .before .before .args .a) _ _ (journaled (c .before .before .before .before .before .before .before .before .before .before .before .before .before .args .m .now) (c .before .before .before .before .before .before .before .before .before .before .before .before .before .args .places .now) (c .before .before .before .before .before .before .before .before .before .before .before .before .before .args .words .now)) _ _ _ (c .before .before .before .before .before .before .before .before .before .is-user .ensures) (c .before .before .before .before .before .before .before .is-virtual .ensures) (c .before .before .check .ensures)
+
+pub check-target-spec : {M : Type 1} → statement M
+check-target-spec =
+    tie.close
+    (tie.spec
+    element-copy-out-stb
+    is-user-requires
+    is-virtual-requires
+    check-requires
+    same-length
+    returns)

@@ -1,0 +1,211 @@
+// ENTER.
+use crate::targets::check_msp;
+use crate::targets::check_target;
+use crate::targets::stack_target;
+use bank::flow::advanced;
+use bank::flow::with_csp;
+use bank::status::with_guard;
+use isa::MonadicMode;
+use machine::status::cache_on;
+use machine::status::is_user;
+use machine::status::is_virtual;
+use machine::status::sp_current;
+use memory::answers::low32;
+use moves::flushing::flush;
+use word::sums::minus;
+use word::sums::plus;
+ghost use mathlib.Core.Path.{_≡_};
+ghost use Rattle.memory.specs.Answers.{answerOf};
+ghost use Rattle.program.specs.Access.{gave};
+ghost use Rattle.program.specs.Program.{interpret};
+ghost use Rattle.program.specs.Journal.{journaled, logging};
+ghost use Rattle.isa.specs.Legal.{isStack};
+ghost use Rattle.machine.specs.Status.{cpu};
+ghost use Rattle.access.specs.Code.{ended};
+ghost use Rattle.exec.specs.Stack.{enterPlain, enterUncached, enterEmpty, enterOffset, enterAt, clipped as clippedOf, enter as enterOf};
+ghost use Rattle.stacks.specs.Code.{enterClipped};
+
+// The interrupt stack is current: nothing is moved.
+fn enter_plain(
+    m: &mut [u8],
+    places: &mut [u32; 201],
+    words: &mut [[u8; 4]; 200],
+    q: &[[u32; 4]; 16],
+    r: &mut [u32; 17],
+    target: u32,
+) -> u64
+    ensures { λ x. ⌜ gave (ended (answerOf x) (now (r .exit)) (now (q .entry))) (journaled (now (m .exit)) (now (places .exit)) (now (words .exit))) ≡ interpret logging (enterPlain (cpu (now (r .entry)) (now (q .entry))) target) (journaled (now (m .entry)) (now (places .entry)) (now (words .entry))) ⌝ }
+{
+    let x = check_target(m, places, words, q, r, target);
+    if 0x1_0000_0000 <= x {
+        return x;
+    }
+    with_csp(r, target);
+    x
+}
+
+// The cache is off, or empty.
+fn enter_uncached(
+    m: &mut [u8],
+    places: &mut [u32; 201],
+    words: &mut [[u8; 4]; 200],
+    q: &[[u32; 4]; 16],
+    r: &mut [u32; 17],
+    target: u32,
+) -> u64
+    ensures { λ x. ⌜ gave (ended (answerOf x) (now (r .exit)) (now (q .entry))) (journaled (now (m .exit)) (now (places .exit)) (now (words .exit))) ≡ interpret logging (enterUncached (cpu (now (r .entry)) (now (q .entry))) target) (journaled (now (m .entry)) (now (places .entry)) (now (words .entry))) ⌝ }
+{
+    let x = check_target(m, places, words, q, r, target);
+    if 0x1_0000_0000 <= x {
+        return x;
+    }
+    with_csp(r, target);
+    r[4] = target;
+    x
+}
+
+// All is flushed.
+fn enter_empty(
+    m: &mut [u8],
+    places: &mut [u32; 201],
+    words: &mut [[u8; 4]; 200],
+    q: &[[u32; 4]; 16],
+    r: &mut [u32; 17],
+    target: u32,
+) -> u64
+    ensures { λ x. ⌜ gave (ended (answerOf x) (now (r .exit)) (now (q .entry))) (journaled (now (m .exit)) (now (places .exit)) (now (words .exit))) ≡ interpret logging (enterEmpty (cpu (now (r .entry)) (now (q .entry))) target) (journaled (now (m .entry)) (now (places .entry)) (now (words .entry))) ⌝ }
+{
+    let x = flush(m, places, words, q, r, true, target);
+    if 0x1_0000_0000 <= x {
+        return x;
+    }
+    enter_uncached(m, places, words, q, r, target)
+}
+
+// MSP after ENTER by a stack offset: at most the cache's size above the target.
+fn clipped(old: u32, msp: u32, target: u32) -> u32
+    ensures { λ x. ⌜ x ≡ clippedOf old msp target ⌝ }
+{
+    if 256 < minus(old, target) {
+        let top = plus(target, 256);
+        if top < msp { top } else { msp }
+    } else {
+        msp
+    }
+}
+
+// Both pointers are checked, then set; old is MSP before the flush.
+fn enter_clipped(
+    m: &mut [u8],
+    places: &mut [u32; 201],
+    words: &mut [[u8; 4]; 200],
+    q: &[[u32; 4]; 16],
+    r: &mut [u32; 17],
+    target: u32,
+    old: u32,
+) -> u64
+    ensures { λ x. ⌜ gave (ended (answerOf x) (now (r .exit)) (now (q .entry))) (journaled (now (m .exit)) (now (places .exit)) (now (words .exit))) ≡ interpret logging (enterClipped (cpu (now (r .entry)) (now (q .entry))) target old) (journaled (now (m .entry)) (now (places .entry)) (now (words .entry))) ⌝ }
+{
+    let new = clipped(old, r[4], target);
+    let x = check_target(m, places, words, q, r, target);
+    if 0x1_0000_0000 <= x {
+        return x;
+    }
+    let stb = r[9];
+    let user = is_user(r);
+    let translated = is_virtual(r);
+    let y = check_msp(m, places, words, q, r, stb, user, translated, old, new);
+    if 0x1_0000_0000 <= y {
+        return y;
+    }
+    with_csp(r, target);
+    r[4] = new;
+    y
+}
+
+// Only what is too much is flushed.
+fn enter_offset(
+    m: &mut [u8],
+    places: &mut [u32; 201],
+    words: &mut [[u8; 4]; 200],
+    q: &[[u32; 4]; 16],
+    r: &mut [u32; 17],
+    target: u32,
+) -> u64
+    ensures { λ x. ⌜ gave (ended (answerOf x) (now (r .exit)) (now (q .entry))) (journaled (now (m .exit)) (now (places .exit)) (now (words .exit))) ≡ interpret logging (enterOffset (cpu (now (r .entry)) (now (q .entry))) target) (journaled (now (m .entry)) (now (places .entry)) (now (words .entry))) ⌝ }
+{
+    let old = r[4];
+    let x = flush(m, places, words, q, r, false, target);
+    if 0x1_0000_0000 <= x {
+        return x;
+    }
+    enter_clipped(m, places, words, q, r, target, old)
+}
+
+fn is_stack(mode: MonadicMode) -> bool
+    ensures { λ x. ⌜ x ≡ isStack mode ⌝ }
+{
+    match mode {
+        MonadicMode::WordAbsolute => false,
+        MonadicMode::WordStack => true,
+        MonadicMode::WordIndirect => false,
+        MonadicMode::WordImmediate => false,
+        MonadicMode::FlowAbsoluteIndirect => false,
+        MonadicMode::FlowStackIndirect => false,
+        MonadicMode::FlowRelative => false,
+        MonadicMode::FlowAbsolute => false,
+    }
+}
+
+fn enter_at(
+    m: &mut [u8],
+    places: &mut [u32; 201],
+    words: &mut [[u8; 4]; 200],
+    q: &[[u32; 4]; 16],
+    r: &mut [u32; 17],
+    mode: MonadicMode,
+    target: u32,
+) -> u64
+    ensures { λ x. ⌜ gave (ended (answerOf x) (now (r .exit)) (now (q .entry))) (journaled (now (m .exit)) (now (places .exit)) (now (words .exit))) ≡ interpret logging (enterAt (cpu (now (r .entry)) (now (q .entry))) mode target) (journaled (now (m .entry)) (now (places .entry)) (now (words .entry))) ⌝ }
+{
+    if sp_current(r) {
+        if cache_on(r) {
+            if is_stack(mode) {
+                enter_offset(m, places, words, q, r, target)
+            } else {
+                enter_empty(m, places, words, q, r, target)
+            }
+        } else {
+            enter_uncached(m, places, words, q, r, target)
+        }
+    } else {
+        enter_plain(m, places, words, q, r, target)
+    }
+}
+
+// n is the parcels of the instruction.
+pub fn enter(
+    m: &mut [u8],
+    places: &mut [u32; 201],
+    words: &mut [[u8; 4]; 200],
+    q: &[[u32; 4]; 16],
+    r: &mut [u32; 17],
+    mode: MonadicMode,
+    v: u32,
+    n: u32,
+) -> u64
+    ensures { λ x. ⌜ gave (ended (answerOf x) (now (r .exit)) (now (q .entry))) (journaled (now (m .exit)) (now (places .exit)) (now (words .exit))) ≡ interpret logging (enterOf (cpu (now (r .entry)) (now (q .entry))) mode v n) (journaled (now (m .entry)) (now (places .entry)) (now (words .entry))) ⌝ }
+{
+    let x = stack_target(m, places, words, q, r, mode, v);
+    if 0x1_0000_0000 <= x {
+        return x;
+    }
+    let target = low32(x) / 16 * 16;
+    let y = enter_at(m, places, words, q, r, mode, target);
+    if 0x1_0000_0000 <= y {
+        return y;
+    }
+    with_guard(r, true);
+    advanced(r, n);
+    y
+}

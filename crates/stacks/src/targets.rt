@@ -1,0 +1,105 @@
+// Where ENTER and CATCH go, and the checks that stores are valid there. A fault leaves its address.
+use access::faults::set_fault;
+use bank::flow::stack_address;
+use control::words::read_word;
+use isa::MonadicMode;
+use machine::status::is_user;
+use machine::status::is_virtual;
+use memory::answers::good;
+ghost use mathlib.Core.Path.{_≡_};
+ghost use Prim.Native.Nat.{_^_, _<_};
+ghost use Rattle.memory.specs.Answers.{answerOf};
+ghost use Rattle.program.specs.Access.{gave, probe as probes};
+ghost use Rattle.program.specs.Program.{interpret};
+ghost use Rattle.program.specs.Journal.{journaled, logging};
+ghost use Rattle.handler.specs.Followed.{regimeFor};
+ghost use Rattle.machine.specs.Status.{cpu};
+ghost use Rattle.access.specs.Parts.{request};
+ghost use Rattle.access.specs.Data.{checkStore};
+ghost use Rattle.exec.specs.Stack.{stackTarget, checkMsp};
+ghost use Rattle.control.specs.Code.{valued};
+
+// The target of ENTER or CATCH.
+pub fn stack_target(
+    m: &mut [u8],
+    places: &mut [u32; 201],
+    words: &mut [[u8; 4]; 200],
+    q: &[[u32; 4]; 16],
+    r: &mut [u32; 17],
+    mode: MonadicMode,
+    v: u32,
+) -> u64
+    ensures { λ x. ⌜ (gave (valued (answerOf x) (now (r .exit)) (now (q .entry))) (journaled (now (m .exit)) (now (places .exit)) (now (words .exit))) ≡ interpret logging (stackTarget (cpu (now (r .entry)) (now (q .entry))) mode v) (journaled (now (m .entry)) (now (places .entry)) (now (words .entry)))) × (x < 2 ^ 32 → now (r .exit) ≡ now (r .entry)) ⌝ }
+{
+    match mode {
+        MonadicMode::WordAbsolute => read_word(m, places, words, q, r, v),
+        MonadicMode::WordStack => good(stack_address(r, v)),
+        MonadicMode::WordIndirect => read_word(m, places, words, q, r, stack_address(r, v)),
+        MonadicMode::WordImmediate => good(v),
+        MonadicMode::FlowAbsoluteIndirect => good(v),
+        MonadicMode::FlowStackIndirect => good(v),
+        MonadicMode::FlowRelative => good(v),
+        MonadicMode::FlowAbsolute => good(v),
+    }
+}
+
+// Whether stores at a are valid, in a regime given by its numbers.
+fn check(
+    m: &mut [u8],
+    places: &mut [u32; 201],
+    words: &mut [[u8; 4]; 200],
+    q: &[[u32; 4]; 16],
+    r: &mut [u32; 17],
+    stb: u32,
+    user: bool,
+    translated: bool,
+    a: u32,
+) -> u64
+    ensures { λ x. ⌜ (gave (valued (answerOf x) (now (r .exit)) (now (q .entry))) (journaled (now (m .exit)) (now (places .exit)) (now (words .exit))) ≡ interpret logging (request (cpu (now (r .entry)) (now (q .entry))) (probes (regimeFor stb user translated) a) a) (journaled (now (m .entry)) (now (places .entry)) (now (words .entry)))) × (x < 2 ^ 32 → now (r .exit) ≡ now (r .entry)) ⌝ }
+{
+    let x = handler::accesses::probe(m, stb, user, translated, a);
+    if 0x1_0000_0000 <= x {
+        set_fault(r, x, a);
+        return x;
+    }
+    x
+}
+
+// The same at the current level.
+pub fn check_target(
+    m: &mut [u8],
+    places: &mut [u32; 201],
+    words: &mut [[u8; 4]; 200],
+    q: &[[u32; 4]; 16],
+    r: &mut [u32; 17],
+    a: u32,
+) -> u64
+    ensures { λ x. ⌜ (gave (valued (answerOf x) (now (r .exit)) (now (q .entry))) (journaled (now (m .exit)) (now (places .exit)) (now (words .exit))) ≡ interpret logging (checkStore (cpu (now (r .entry)) (now (q .entry))) a) (journaled (now (m .entry)) (now (places .entry)) (now (words .entry)))) × (x < 2 ^ 32 → now (r .exit) ≡ now (r .entry)) ⌝ }
+{
+    let stb = r[9];
+    let user = is_user(r);
+    let translated = is_virtual(r);
+    check(m, places, words, q, r, stb, user, translated, a)
+}
+
+// MSP is checked if it is updated.
+pub fn check_msp(
+    m: &mut [u8],
+    places: &mut [u32; 201],
+    words: &mut [[u8; 4]; 200],
+    q: &[[u32; 4]; 16],
+    r: &mut [u32; 17],
+    stb: u32,
+    user: bool,
+    translated: bool,
+    old: u32,
+    new: u32,
+) -> u64
+    ensures { λ x. ⌜ (gave (valued (answerOf x) (now (r .exit)) (now (q .entry))) (journaled (now (m .exit)) (now (places .exit)) (now (words .exit))) ≡ interpret logging (checkMsp (cpu (now (r .entry)) (now (q .entry))) (regimeFor stb user translated) old new) (journaled (now (m .entry)) (now (places .entry)) (now (words .entry)))) × (x < 2 ^ 32 → now (r .exit) ≡ now (r .entry)) ⌝ }
+{
+    if new == old {
+        good(0)
+    } else {
+        check(m, places, words, q, r, stb, user, translated, new)
+    }
+}
