@@ -1,4 +1,5 @@
 pub mod DataLaws
 pub mod Bind
+pub mod PartLaws
 pub mod TextLaws
 pub mod OperandLaws

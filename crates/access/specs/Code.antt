@@ -1,6 +1,6 @@
 -- What the code's answers say, in the definitions' types.
 -- Assumes nothing.
-use Prim.Native.Nat.{ℕ, _+_, _/_, _%_, _^_}
+use Prim.Native.Nat.{ℕ, _/_, _%_, _^_}
 use mathlib.Core.Bool.{cond}
 use mathlib.Core.List.{List, [], _∷_}
 use lib.Dec.{eqb, ltb}
@@ -26,6 +26,14 @@ wrote c a (bad e) = stop e (faulted c e a)
 abbrev pub ended : Answer → Bank → Cache → Out Cpu
 ended (got v) b q = ok (cpu b q)
 ended (bad e) b q = stop e (cpu b q)
+
+-- an answer whose value is made into another, or the exception with the machine as it then is
+abbrev pub giving : {A : Type 0} → (ℕ → A) → Answer → Bank → Cache → Out A
+giving f (got v) b q = ok (f v)
+giving f (bad e) b q = stop e (cpu b q)
+
+abbrev pub valued : Answer → Bank → Cache → Out ℕ
+valued x b q = giving (λ v. v) x b q
 
 -- two parcels as one word
 unfoldable pub fetchTwo : Cpu → ℕ → Program (Out ℕ)

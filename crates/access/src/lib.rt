@@ -2,3 +2,4 @@
 pub mod data;
 pub mod faults;
 pub mod text;
+pub mod transfers;

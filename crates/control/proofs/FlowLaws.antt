@@ -17,10 +17,11 @@ use Rattle.machine.specs.Status.{Cpu, cpu, csp}
 use Rattle.access.specs.Parts.{Out, done}
 use Rattle.access.specs.Data.{readData, writeData}
 use Rattle.access.specs.Code.{ended}
+use Rattle.access.proofs.PartLaws.{goes, stops-ended, ended-goes, ended-stops}
 use Rattle.exec.specs.Operands.{stackAddress, writeAccumulator}
 use Rattle.exec.specs.Control.{readWord32, jumped, advanced, nextPc, jump, jumpIf, call, loadAddress, released, return}
 use Rattle.control.specs.Code.{callTo, loadAccumulator}
-use Rattle.control.proofs.Ways.{finished, went-on, stopped-there, value-on, value-stopped}
+use Rattle.control.proofs.Ways.{finished}
 use Rattle.control.proofs.WordLaws.{Valued}
 
 -- what the registers' code promises: the same of any cache
@@ -43,15 +44,15 @@ module _ (b : Bank) (q : Cache) (k : MonadicMode) (v x : ℕ) (s : Bank) (t u : 
   module _ (h : 2 ^ 32 ≤ x) where
     pub jump-stopped : gave (ended (answerOf x) s q) u ≡ interpret logging (jump (cpu b q) k v) t
     unfolding jump
-    jump-stopped = value-stopped (readWord32 (cpu b q) k v) x s q t u (e .0) (then-jump 0) h
+    jump-stopped = stops-ended (λ v. v) s q x (readWord32 (cpu b q) k v) (then-jump 0) t u (e .0) h
 
     pub call-stopped : (n : ℕ) → gave (ended (answerOf x) s q) u ≡ interpret logging (call (cpu b q) k v n) t
     unfolding call callTo
-    call-stopped n = value-stopped (readWord32 (cpu b q) k v) x s q t u (e .0) (then-call n) h
+    call-stopped n = stops-ended (λ v. v) s q x (readWord32 (cpu b q) k v) (then-call n) t u (e .0) h
 
     pub load-stopped : (n : ℕ) → gave (ended (answerOf x) s q) u ≡ interpret logging (loadAddress (cpu b q) k v n) t
     unfolding loadAddress loadAccumulator
-    load-stopped n = value-stopped (readWord32 (cpu b q) k v) x s q t u (e .0) (then-load n) h
+    load-stopped n = stops-ended (λ v. v) s q x (readWord32 (cpu b q) k v) (then-load n) t u (e .0) h
 
   module _ (h : x < 2 ^ 32) (a : ℕ) (ea : a ≡ x % 2 ^ 32) where
     kept : s ≡ b
@@ -61,7 +62,7 @@ module _ (b : Bank) (q : Cache) (k : MonadicMode) (v x : ℕ) (s : Bank) (t u : 
     unfolding jump interpret
     jump-gone d f =
         finished x d q (jumped (cpu b q) (x % 2 ^ 32)) u h (f q ∙ same)
-        ∙ sym (value-on (readWord32 (cpu b q) k v) x s q t u (e .0) (then-jump 0) h)
+        ∙ sym (goes (λ v. v) s q x (readWord32 (cpu b q) k v) (then-jump 0) t u (e .0) h)
       where
         same : jumped (cpu s q) a ≡ jumped (cpu b q) (x % 2 ^ 32)
         same = rw (kept, ea) refl
@@ -69,14 +70,14 @@ module _ (b : Bank) (q : Cache) (k : MonadicMode) (v x : ℕ) (s : Bank) (t u : 
     module _ (n : ℕ) (g : Gave Journaled (Out Cpu)) where
       pub call-gone : g ≡ interpret logging (callTo (cpu s q) a n) u → g ≡ interpret logging (call (cpu b q) k v n) t
       unfolding call callTo
-      call-gone f = f ∙ same ∙ sym (value-on (readWord32 (cpu b q) k v) x s q t u (e .0) (then-call n) h)
+      call-gone f = f ∙ same ∙ sym (goes (λ v. v) s q x (readWord32 (cpu b q) k v) (then-call n) t u (e .0) h)
         where
           same : interpret logging (callTo (cpu s q) a n) u ≡ interpret logging (then-call n (x % 2 ^ 32)) u
           same = rw (kept, ea) refl
 
       pub load-gone : g ≡ interpret logging (loadAccumulator (cpu s q) a n) u → g ≡ interpret logging (loadAddress (cpu b q) k v n) t
       unfolding loadAddress loadAccumulator
-      load-gone f = f ∙ same ∙ sym (value-on (readWord32 (cpu b q) k v) x s q t u (e .0) (then-load n) h)
+      load-gone f = f ∙ same ∙ sym (goes (λ v. v) s q x (readWord32 (cpu b q) k v) (then-load n) t u (e .0) h)
         where
           same : interpret logging (loadAccumulator (cpu s q) a n) u ≡ interpret logging (then-load n (x % 2 ^ 32)) u
           same = rw (kept, ea) refl
@@ -98,24 +99,24 @@ module _ (b : Bank) (q : Cache) (i w x : ℕ) (s : Bank) (p : Cache) (t u : Jour
   module _ (a n : ℕ) (ei : i ≡ word b (csp b)) (ew : w ≡ nextPc (cpu b []) n) where
     pub called-stopped : 2 ^ 32 ≤ x → gave (ended (answerOf x) s p) u ≡ interpret logging (callTo (cpu b q) a n) t
     unfolding callTo
-    called-stopped h = rw (← ei, ← ew) (stopped-there (writeData (cpu b q) Word i w) (λ d. done (jumped d a)) x s p t u e h)
+    called-stopped h = rw (← ei, ← ew) (ended-stops s p x (writeData (cpu b q) Word i w) (λ d. done (jumped d a)) t u e h)
 
     pub called-gone : x < 2 ^ 32 → (d : Bank) → Made s d (λ c. jumped c a) → gave (ended (answerOf x) d p) u ≡ interpret logging (callTo (cpu b q) a n) t
     unfolding callTo interpret
     called-gone h d f =
         rw (← ei, ← ew)
-        (finished x d p (jumped (cpu s p) a) u h (f p) ∙ sym (went-on (writeData (cpu b q) Word i w) (λ d. done (jumped d a)) x s p t u e h))
+        (finished x d p (jumped (cpu s p) a) u h (f p) ∙ sym (ended-goes s p x (writeData (cpu b q) Word i w) (λ d. done (jumped d a)) t u e h))
 
   module _ (n : ℕ) (ei : i ≡ stackAddress (cpu b []) 4) where
     pub accumulated-stopped : 2 ^ 32 ≤ x → gave (ended (answerOf x) s p) u ≡ interpret logging (loadAccumulator (cpu b q) w n) t
     unfolding loadAccumulator writeAccumulator
-    accumulated-stopped h = rw (← ei) (stopped-there (writeData (cpu b q) Word i w) (λ d. done (advanced d n)) x s p t u e h)
+    accumulated-stopped h = rw (← ei) (ended-stops s p x (writeData (cpu b q) Word i w) (λ d. done (advanced d n)) t u e h)
 
     pub accumulated-gone : x < 2 ^ 32 → (d : Bank) → Made s d (λ c. advanced c n) → gave (ended (answerOf x) d p) u ≡ interpret logging (loadAccumulator (cpu b q) w n) t
     unfolding loadAccumulator writeAccumulator interpret
     accumulated-gone h d f =
         rw (← ei)
-        (finished x d p (advanced (cpu s p) n) u h (f p) ∙ sym (went-on (writeData (cpu b q) Word i w) (λ d. done (advanced d n)) x s p t u e h))
+        (finished x d p (advanced (cpu s p) n) u h (f p) ∙ sym (ended-goes s p x (writeData (cpu b q) Word i w) (λ d. done (advanced d n)) t u e h))
 
 -- ---- RETURN
 
@@ -125,7 +126,7 @@ module _ (b : Bank) (q : Cache) (v i x : ℕ) (s : Bank) (t u : Journaled) (ei :
 
   pub return-stopped : 2 ^ 32 ≤ x → gave (ended (answerOf x) s q) u ≡ interpret logging (return (cpu b q) v) t
   unfolding return
-  return-stopped h = rw (← ei) (value-stopped (readData (cpu b q) Word i) x s q t u (e .0) then-return h)
+  return-stopped h = rw (← ei) (stops-ended (λ v. v) s q x (readData (cpu b q) Word i) then-return t u (e .0) h)
 
   pub return-gone : x < 2 ^ 32 → (d : Bank) → Made s d (λ c. released c v) → (a : ℕ) → a ≡ x % 2 ^ 32 → (f : Bank) → Made d f (λ c. jumped c a)
       → gave (ended (answerOf x) f q) u ≡ interpret logging (return (cpu b q) v) t
@@ -133,7 +134,7 @@ module _ (b : Bank) (q : Cache) (v i x : ℕ) (s : Bank) (t u : Journaled) (ei :
   return-gone h d ed a ea f ef =
       rw (← ei)
       (finished x f q (jumped (released (cpu b q) v) (x % 2 ^ 32)) u h (ef q ∙ ap (λ (c : Cpu). jumped c a) (ed q) ∙ same)
-      ∙ sym (value-on (readData (cpu b q) Word i) x s q t u (e .0) then-return h))
+      ∙ sym (goes (λ v. v) s q x (readData (cpu b q) Word i) then-return t u (e .0) h))
     where
       kept : s ≡ b
       kept = e .1 h

@@ -1,4 +1,4 @@
--- A part and what follows it, by the number that the part's code answers.
+-- A part that has ended, and a word of a frame with what follows it, by the number that the code answers.
 -- Assumes nothing.
 use Prim.Native.Nat.{ℕ, _%_, _^_, _<_, _≤_}
 use mathlib.Core.Path.{_≡_, refl, sym, ap}
@@ -16,7 +16,6 @@ use Rattle.access.specs.Parts.{Out, ok, stop, onward, _>>=_, frameReplied, rese
 use Rattle.access.specs.Data.{readFrame, writeFrame}
 use Rattle.access.specs.Code.{ended}
 use Rattle.access.proofs.Bind.{bind, frame-loaded, frame-stored}
-use Rattle.control.specs.Code.{valued}
 
 -- a part that has gone to its end, with the machine that the registers' code made
 pub finished : (x : ℕ) (d : Bank) (q : Cache) (c : Cpu) (u : Journaled) → x < 2 ^ 32 → cpu d q ≡ c → gave (ended (answerOf x) d q) u ≡ gave (ok c) u
@@ -25,30 +24,6 @@ finished x d q c u h e = rw (answer-low x h) (ap (λ (n : Cpu). gave (ok n) u) e
 -- the answer of a frame's fault
 pub reset-asked : (b : Bank) (q : Cache) → ended (answerOf (2 ^ 32)) b q ≡ stop resets (cpu b q)
 reset-asked b q = rw (answer-bad 0 (omega arith)) refl
-
--- after a part that gives a machine
-module _ (p : Program (Out Cpu)) (f : Cpu → Program (Out Cpu)) (x : ℕ) (b : Bank) (q : Cache) (t u : Journaled) (e : gave (ended (answerOf x) b q) u ≡ interpret logging p t) where
-  pub went-on : x < 2 ^ 32 → interpret logging (p >>= f) t ≡ interpret logging (f (cpu b q)) u
-  unfolding onward
-  went-on h = rw (bind p f t, ← e, answer-low x h) refl
-
-  pub stopped-there : 2 ^ 32 ≤ x → gave (ended (answerOf x) b q) u ≡ interpret logging (p >>= f) t
-  unfolding onward interpret
-  stopped-there h = rw (bind p f t, ← e, answer-high x h) refl
-
--- after a part that gives a value
-module _ (p : Program (Out ℕ)) (x : ℕ) (b : Bank) (q : Cache) (t u : Journaled) (e : gave (valued (answerOf x) b q) u ≡ interpret logging p t) where
-  pub value-on : {B : Type 0} (f : ℕ → Program (Out B)) → x < 2 ^ 32 → interpret logging (p >>= f) t ≡ interpret logging (f (x % 2 ^ 32)) u
-  unfolding onward
-  value-on f h = rw (bind p f t, ← e, answer-low x h) refl
-
-  pub value-stopped : (f : ℕ → Program (Out Cpu)) → 2 ^ 32 ≤ x → gave (ended (answerOf x) b q) u ≡ interpret logging (p >>= f) t
-  unfolding onward interpret
-  value-stopped f h = rw (bind p f t, ← e, answer-high x h) refl
-
-  pub value-stopped-again : (f : ℕ → Program (Out ℕ)) → 2 ^ 32 ≤ x → gave (valued (answerOf x) b q) u ≡ interpret logging (p >>= f) t
-  unfolding onward interpret
-  value-stopped-again f h = rw (bind p f t, ← e, answer-high x h) refl
 
 -- after a word of a frame: its fault resets
 module _ {B : Type 0} (b : Bank) (q : Cache) (p : Program (Out ℕ)) (f : ℕ → Program (Out B)) (x : ℕ) (t u : Journaled) (e : interpret logging p t ≡ gave (frameReplied (cpu b q) (answerOf x)) u) where

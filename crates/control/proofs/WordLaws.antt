@@ -1,7 +1,7 @@
--- The ways out of a word read or written, and of the operands of word modes.
+-- The ways out of the operands of word modes.
 -- Assumes nothing.
 use Prim.Native.Nat.{ℕ, _%_, _^_, _<_, _≤_}
-use mathlib.Core.Path.{_≡_, refl, sym, ap, _∙_}
+use mathlib.Core.Path.{_≡_, refl, sym, _∙_}
 use mathlib.Core.Bool.{Bool, true, false}
 use mathlib.Core.List.{[]}
 use native.Mathlib.Omega.{arith}
@@ -10,43 +10,23 @@ use Rattle.word.specs.Sums.{plusOf}
 use Rattle.isa.specs.declared.MonadicMode.{MonadicMode}
 use Rattle.isa.specs.declared.MonadicMode.the-variants.{WordAbsolute, WordStack, WordIndirect, WordImmediate, FlowAbsoluteIndirect, FlowStackIndirect, FlowRelative, FlowAbsolute}
 use Rattle.memory.specs.Answers.{got, answerOf}
-use Rattle.memory.proofs.AnswerLaws.{answer-low, answer-high}
 use Rattle.program.specs.Access.{gave}
 use Rattle.program.specs.Program.{Program, interpret}
 use Rattle.program.specs.Journal.{Journaled, logging}
 use Rattle.machine.specs.Registers.{Bank, word, isp, pc, sp}
 use Rattle.machine.specs.Cache.{Cache}
-use Rattle.machine.specs.Status.{Cpu, cpu, csp, spCurrent}
-use Rattle.access.specs.Parts.{Out, stop, faulted, replied}
-use Rattle.access.specs.Data.{readData, writeData}
-use Rattle.access.specs.Code.{ended, wrote}
-use Rattle.access.proofs.Bind.{faulted-bank}
-use Rattle.moves.proofs.Stops.{faultBank, stopped}
+use Rattle.machine.specs.Status.{cpu, csp, spCurrent}
+use Rattle.access.specs.Parts.{Out}
+use Rattle.access.specs.Data.{readData}
+use Rattle.access.specs.Code.{valued}
+use Rattle.access.proofs.PartLaws.{goes, stops-giving}
 use Rattle.exec.specs.Operands.{stackAddress}
 use Rattle.exec.specs.Control.{readWord32}
-use Rattle.control.specs.Code.{valued, readThrough}
-use Rattle.control.proofs.Ways.{value-on, value-stopped-again}
+use Rattle.control.specs.Code.{readThrough}
 
 -- what a function that gives a value promises: what it gave, and that the bank stays unless it stopped
 abbrev pub Valued : Bank → Cache → ℕ → Bank → Program (Out ℕ) → Journaled → Journaled → Type 0
 Valued b q x s p t u = (gave (valued (answerOf x) s q) u ≡ interpret logging p t) × (x < 2 ^ 32 → s ≡ b)
-
--- an access at the address a whose fault is saved
-module _ (b : Bank) (q : Cache) (a x : ℕ) (p : Program (Out ℕ)) (t u : Journaled) (e : gave (replied (cpu b q) a (answerOf x)) u ≡ interpret logging p t) where
-  pub read-faulted : (s : Bank) → 2 ^ 32 ≤ x → s ≡ faultBank b x a → Valued b q x s p t u
-  read-faulted s h es = (stops ∙ went ∙ e, λ k. absurd (omega arith))
-    where
-      stops : gave (valued (answerOf x) s q) u ≡ gave (stop (x % 2 ^ 32) (faulted (cpu b q) (x % 2 ^ 32) a)) u
-      stops = rw (answer-high x h, es, faulted-bank b q (x % 2 ^ 32) a) refl
-
-      went : gave (stop (x % 2 ^ 32) (faulted (cpu b q) (x % 2 ^ 32) a)) u ≡ gave (replied (cpu b q) a (answerOf x)) u
-      went = rw (answer-high x h) refl
-
-  pub word-read : x < 2 ^ 32 → Valued b q x b p t u
-  word-read h = (ap (λ (o : Out ℕ). gave o u) same ∙ e, λ k. refl)
-    where
-      same : valued (answerOf x) b q ≡ replied (cpu b q) a (answerOf x)
-      same = rw (answer-low x h) refl
 
 -- the second word is read with the bank that the first one left
 module _ (b : Bank) (q : Cache) (a x : ℕ) (s : Bank) (t u : Journaled) (e : Valued b q x s (readData (cpu b q) Word a) t u) where
@@ -55,12 +35,12 @@ module _ (b : Bank) (q : Cache) (a x : ℕ) (s : Bank) (t u : Journaled) (e : Va
 
   pub pointer-faulted : 2 ^ 32 ≤ x → Valued b q x s (readThrough (cpu b q) a) t u
   unfolding readThrough
-  pointer-faulted h = (value-stopped-again (readData (cpu b q) Word a) x s q t u (e .0) second h, λ k. absurd (omega arith))
+  pointer-faulted h = (stops-giving (λ v. v) s q x (readData (cpu b q) Word a) second t u (e .0) (λ v. v) h, λ k. absurd (omega arith))
 
   pub pointer-followed : x < 2 ^ 32 → (v : ℕ) → v ≡ x % 2 ^ 32 → (y : ℕ) (d : Bank) (w : Journaled) → Valued s q y d (readData (cpu s q) Word v) u w
       → Valued b q y d (readThrough (cpu b q) a) t w
   unfolding readThrough
-  pointer-followed h v ev y d w f = (f .0 ∙ same ∙ sym (value-on (readData (cpu b q) Word a) x s q t u (e .0) second h), λ k. f .1 k ∙ e .1 h)
+  pointer-followed h v ev y d w f = (f .0 ∙ same ∙ sym (goes (λ v. v) s q x (readData (cpu b q) Word a) second t u (e .0) h), λ k. f .1 k ∙ e .1 h)
     where
       kept : s ≡ b
       kept = e .1 h
@@ -104,21 +84,6 @@ module _ (b : Bank) (q : Cache) (k : MonadicMode) (v x : ℕ) (t : Journaled) wh
   pub by-relative : k ≡ FlowRelative → (a : ℕ) → a ≡ plusOf (word b pc) v → answerOf x ≡ got a → Valued b q x b (readWord32 (cpu b q) k v) t t
   unfolding readWord32 interpret
   by-relative z a ea e = rw (z, e, ea) (refl, λ h. refl)
-
--- ---- a word written
-
-module _ (b : Bank) (q p : Cache) (a v x : ℕ) (t u : Journaled) (e : gave (wrote (cpu b p) a (answerOf x)) u ≡ interpret logging (writeData (cpu b q) Word a v) t) where
-  pub write-faulted : (s : Bank) → 2 ^ 32 ≤ x → s ≡ faultBank b x a → gave (ended (answerOf x) s p) u ≡ interpret logging (writeData (cpu b q) Word a v) t
-  write-faulted s h es = stopped b s p x a u h es ∙ went ∙ e
-    where
-      went : gave (stop (x % 2 ^ 32) (faulted (cpu b p) (x % 2 ^ 32) a)) u ≡ gave (wrote (cpu b p) a (answerOf x)) u
-      went = rw (answer-high x h) refl
-
-  pub word-written : x < 2 ^ 32 → gave (ended (answerOf x) b p) u ≡ interpret logging (writeData (cpu b q) Word a v) t
-  word-written h = ap (λ (o : Out Cpu). gave o u) same ∙ e
-    where
-      same : ended (answerOf x) b p ≡ wrote (cpu b p) a (answerOf x)
-      same = rw (answer-low x h) refl
 
 -- ---- the current stack pointer
 

@@ -1,21 +1,13 @@
--- What the code's answers say of parts that give a value, and the parts of instructions that are functions of their own.
+-- The parts of instructions that are functions of their own.
 -- Assumes nothing.
 use Prim.Native.Nat.{ℕ}
 use Rattle.word.specs.declared.Width.the-variants.{Word}
-use Rattle.memory.specs.Answers.{Answer, got, bad}
 use Rattle.program.specs.Program.{Program}
-use Rattle.machine.specs.Registers.{Bank}
-use Rattle.machine.specs.Cache.{Cache}
-use Rattle.machine.specs.Status.{Cpu, cpu, reg, csp}
-use Rattle.access.specs.Parts.{Out, ok, stop, done, _>>=_}
+use Rattle.machine.specs.Status.{Cpu, reg, csp}
+use Rattle.access.specs.Parts.{Out, done, _>>=_}
 use Rattle.access.specs.Data.{readData, writeData}
 use Rattle.exec.specs.Operands.{writeAccumulator}
 use Rattle.exec.specs.Control.{jumped, nextPc, advanced}
-
--- a value, or the exception with the registers and the cache as they then are
-abbrev pub valued : Answer → Bank → Cache → Out ℕ
-valued (got v) b q = ok v
-valued (bad e) b q = stop e (cpu b q)
 
 -- the word that the word at a points to
 unfoldable pub readThrough : Cpu → ℕ → Program (Out ℕ)

@@ -1,8 +1,8 @@
 // CALL, JMP, JMPT, JMPF, LDRAA and RETURN.
-use crate::words::read_word;
 use crate::words::read_word32;
 use crate::words::stack_pointer;
-use crate::words::write_word;
+use access::transfers::load;
+use access::transfers::store;
 use bank::flow::advanced;
 use bank::flow::jumped;
 use bank::flow::next_pc;
@@ -10,6 +10,7 @@ use bank::flow::released;
 use bank::flow::stack_address;
 use isa::MonadicMode;
 use memory::answers::low32;
+use word::Width;
 ghost use mathlib.Core.Path.{_≡_};
 ghost use Rattle.memory.specs.Answers.{answerOf};
 ghost use Rattle.program.specs.Access.{gave};
@@ -75,7 +76,7 @@ fn call_to(
 {
     let s = stack_pointer(r);
     let p = next_pc(r, n);
-    let x = write_word(m, places, words, q, r, s, p);
+    let x = store(m, places, words, q, r, Width::Word, s, p);
     if 0x1_0000_0000 <= x {
         return x;
     }
@@ -115,7 +116,7 @@ fn load_accumulator(
     ensures { λ x. ⌜ gave (ended (answerOf x) (now (r .exit)) (now (q .exit))) (journaled (now (m .exit)) (now (places .exit)) (now (words .exit))) ≡ interpret logging (loadAccumulator (cpu (now (r .entry)) (now (q .entry))) a n) (journaled (now (m .entry)) (now (places .entry)) (now (words .entry))) ⌝ }
 {
     let s = stack_address(r, 4);
-    let x = write_word(m, places, words, q, r, s, a);
+    let x = store(m, places, words, q, r, Width::Word, s, a);
     if 0x1_0000_0000 <= x {
         return x;
     }
@@ -155,7 +156,7 @@ pub fn return_from(
     ensures { λ x. ⌜ gave (ended (answerOf x) (now (r .exit)) (now (q .entry))) (journaled (now (m .exit)) (now (places .exit)) (now (words .exit))) ≡ interpret logging (returnOf (cpu (now (r .entry)) (now (q .entry))) v) (journaled (now (m .entry)) (now (places .entry)) (now (words .entry))) ⌝ }
 {
     let a = stack_address(r, v);
-    let x = read_word(m, places, words, q, r, a);
+    let x = load(m, places, words, q, r, Width::Word, a);
     if 0x1_0000_0000 <= x {
         return x;
     }

@@ -1,3 +1,3 @@
-// Jumps, calls and returns, and the words that they read and write.
+// Jumps, calls and returns, and the words that they read.
 pub mod flow;
 pub mod words;

@@ -13,11 +13,11 @@ use Rattle.machine.specs.Registers.{Bank}
 use Rattle.machine.specs.Cache.{Cache}
 use Rattle.machine.specs.Status.{Cpu, cpu}
 use Rattle.access.specs.Parts.{Out, stop, onward, _>>=_}
-use Rattle.access.specs.Code.{ended}
+use Rattle.access.specs.Code.{ended, giving, valued}
 use Rattle.access.proofs.Bind.{bind}
+use Rattle.access.proofs.PartLaws.{goes, stops}
 use Rattle.exec.specs.Operands.{Place, locate, readPlace, readOperand}
-use Rattle.operands.specs.Code.{placeAt, giving, valued, placed}
-use Rattle.operands.proofs.PartLaws.{goes, stops}
+use Rattle.operands.specs.Code.{placeAt, placed}
 use Rattle.dyadic.specs.Code.{resumed, finding}
 
 -- ---- what follows an answer

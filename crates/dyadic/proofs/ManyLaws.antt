@@ -22,10 +22,10 @@ use Rattle.machine.specs.Status.{Cpu, cpu}
 use Rattle.access.specs.Parts.{Out, stop, onward, done, _>>=_}
 use Rattle.access.specs.Data.{writeData}
 use Rattle.access.specs.Code.{ended}
+use Rattle.access.proofs.PartLaws.{ended-goes}
 use Rattle.exec.specs.Operands.{Place, kindOf}
 use Rattle.exec.specs.Dyadic.{copies, readWords, readMany, writeWords, writeMany}
 use Rattle.operands.specs.Code.{isConstant, placeAt}
-use Rattle.operands.proofs.PartLaws.{ended-goes}
 use Rattle.dyadic.specs.Code.{resumed}
 use Rattle.dyadic.specs.Words.{followed, loading, storing, wordsOf, countOf, isScalar, scalarOf, copyWords}
 use Rattle.dyadic.proofs.ResultLaws.{finished}

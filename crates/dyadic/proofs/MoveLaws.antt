@@ -15,11 +15,11 @@ use Rattle.machine.specs.Registers.{Bank}
 use Rattle.machine.specs.Cache.{Cache}
 use Rattle.machine.specs.Status.{Cpu, cpu}
 use Rattle.access.specs.Parts.{Out, _>>=_}
-use Rattle.access.specs.Code.{ended}
+use Rattle.access.specs.Code.{ended, giving}
+use Rattle.access.proofs.PartLaws.{goes, stops-ended}
 use Rattle.exec.specs.Operands.{kindOf}
 use Rattle.exec.specs.Dyadic.{placeAddress}
-use Rattle.operands.specs.Code.{isConstant, generalAt, placeAt, giving}
-use Rattle.operands.proofs.PartLaws.{goes, stops-ended}
+use Rattle.operands.specs.Code.{isConstant, generalAt, placeAt}
 use Rattle.dyadic.specs.Code.{moveTo}
 
 -- a part, and the rest of an instruction by the machine and what the part gave

@@ -14,11 +14,11 @@ use Rattle.machine.specs.Cache.{Cache}
 use Rattle.machine.specs.Status.{Cpu, cpu}
 use Rattle.access.specs.Parts.{Out, ok, onward, done, _>>=_}
 use Rattle.access.specs.Code.{ended}
+use Rattle.access.proofs.PartLaws.{ended-goes, ended-stops}
 use Rattle.exec.specs.declared.Operation.{Operation}
 use Rattle.exec.specs.declared.Relation.{Relation}
 use Rattle.exec.specs.Alu.{Result, divides, related, withFlag}
 use Rattle.exec.specs.Dyadic.{checkDivisor}
-use Rattle.operands.proofs.PartLaws.{ended-goes, ended-stops}
 use Rattle.dyadic.specs.Code.{resumed}
 use Rattle.dyadic.proofs.FindLaws.{rest-goes}
 

@@ -15,11 +15,10 @@ use Rattle.machine.specs.Cache.{Cache}
 use Rattle.machine.specs.Status.{Cpu, cpu}
 use Rattle.access.specs.Parts.{Out, ok, stop, onward, done, _>>=_}
 use Rattle.access.specs.Data.{readData}
-use Rattle.access.specs.Code.{ended}
+use Rattle.access.specs.Code.{ended, valued}
 use Rattle.access.proofs.Bind.{bind}
+use Rattle.access.proofs.PartLaws.{goes, stops}
 use Rattle.exec.specs.Dyadic.{readWords}
-use Rattle.operands.specs.Code.{valued}
-use Rattle.operands.proofs.PartLaws.{goes, stops}
 use Rattle.dyadic.specs.Code.{resumed}
 use Rattle.dyadic.specs.Words.{followed, loading}
 use Rattle.dyadic.proofs.FindLaws.{resumed-stop, resumed-part}

@@ -13,7 +13,7 @@ use isa::Wide;
 use memory::answers::good;
 use memory::answers::low32;
 use memory::answers::raised;
-use operands::accesses::write_accumulator;
+use operands::accumulator::write_accumulator;
 use operands::places::write_at;
 ghost use mathlib.Core.Path.{_≡_};
 ghost use Rattle.memory.specs.Answers.{answerOf};

@@ -1,11 +1,11 @@
 // Two or four words in a row, as DQM reads and writes them.
+use access::transfers::load;
+use access::transfers::store;
 use isa::Operand;
 use machine::registers::register_of;
 use memory::answers::good;
 use memory::answers::low32;
 use memory::answers::raised;
-use operands::accesses::load;
-use operands::accesses::store;
 use operands::places::is_constant;
 use operands::registers::word_at;
 use word::Width;

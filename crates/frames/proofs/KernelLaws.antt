@@ -16,9 +16,10 @@ use Rattle.machine.specs.Status.{Cpu, cpu, kernelRegime}
 use Rattle.access.specs.Parts.{Out, _>>=_, done}
 use Rattle.access.specs.Data.{readFrame}
 use Rattle.access.specs.Code.{ended}
+use Rattle.access.proofs.PartLaws.{goes, stops-ended, ended-goes, ended-stops}
 use Rattle.exec.specs.Control.{readWord32, nextPc}
 use Rattle.exec.specs.Frames.{pushFrame, throughVector, kcallVector, kcall, returned, kret}
-use Rattle.control.proofs.Ways.{finished, went-on, stopped-there, value-on, value-stopped, loaded-on, load-stopped}
+use Rattle.control.proofs.Ways.{finished, loaded-on, load-stopped}
 use Rattle.control.proofs.WordLaws.{Valued}
 use Rattle.control.proofs.FlowLaws.{Made}
 
@@ -33,7 +34,7 @@ module _ (b : Bank) (q : Cache) (k : MonadicMode) (v n x : ℕ) (s : Bank) (t u 
 
   pub kcall-first : 2 ^ 32 ≤ x → gave (ended (answerOf x) s q) u ≡ interpret logging (kcall (cpu b q) k v n) t
   unfolding kcall
-  kcall-first h = value-stopped (readWord32 (cpu b q) k v) x s q t u (e .0) then-push h
+  kcall-first h = stops-ended (λ v. v) s q x (readWord32 (cpu b q) k v) then-push t u (e .0) h
 
   module _ (h : x < 2 ^ 32) (a p : ℕ) (ea : a ≡ x % 2 ^ 32) (ep : p ≡ nextPc (cpu s []) n) (y : ℕ) (d : Bank) (w : Journaled)
       (f : gave (ended (answerOf y) d q) w ≡ interpret logging (pushFrame (cpu s q) a p) u) where
@@ -45,13 +46,13 @@ module _ (b : Bank) (q : Cache) (k : MonadicMode) (v n x : ℕ) (s : Bank) (t u 
 
     operand : interpret logging (kcall (cpu b q) k v n) t ≡ interpret logging (pushFrame (cpu s q) a p >>= then-vector) u
     unfolding kcall
-    operand = value-on (readWord32 (cpu b q) k v) x s q t u (e .0) then-push h ∙ sym same
+    operand = goes (λ v. v) s q x (readWord32 (cpu b q) k v) then-push t u (e .0) h ∙ sym same
 
     pub kcall-second : 2 ^ 32 ≤ y → gave (ended (answerOf y) d q) w ≡ interpret logging (kcall (cpu b q) k v n) t
-    kcall-second l = stopped-there (pushFrame (cpu s q) a p) then-vector y d q u w f l ∙ sym operand
+    kcall-second l = ended-stops d q y (pushFrame (cpu s q) a p) then-vector u w f l ∙ sym operand
 
     pub kcall-taken : y < 2 ^ 32 → (g : Gave Journaled (Out Cpu)) → g ≡ interpret logging (throughVector (cpu d q) kcallVector) w → g ≡ interpret logging (kcall (cpu b q) k v n) t
-    kcall-taken l g z = z ∙ sym (operand ∙ went-on (pushFrame (cpu s q) a p) then-vector y d q u w f l)
+    kcall-taken l g z = z ∙ sym (operand ∙ ended-goes d q y (pushFrame (cpu s q) a p) then-vector u w f l)
 
 -- ---- KRET
 

@@ -15,9 +15,10 @@ use Rattle.machine.specs.Status.{Cpu, cpu, kernelRegime, spCurrent}
 use Rattle.access.specs.Parts.{Out, _>>=_, done}
 use Rattle.access.specs.Data.{readFrame, writeData}
 use Rattle.access.specs.Code.{ended}
+use Rattle.access.proofs.PartLaws.{ended-goes, ended-stops}
 use Rattle.exec.specs.Control.{jumped}
 use Rattle.exec.specs.Frames.{pushPair, pushFrame, throughVector, restoredCsp, exceptionVector, interruptSequence, exceptionSequence, storePc, unimplementedSequence}
-use Rattle.control.proofs.Ways.{finished, went-on, stopped-there, loaded-on, load-stopped, stored-on, store-stopped}
+use Rattle.control.proofs.Ways.{finished, loaded-on, load-stopped, stored-on, store-stopped}
 use Rattle.control.proofs.FlowLaws.{Made}
 
 -- ---- interrupts and exceptions: s is the bank with the stack pointer restored
@@ -32,11 +33,11 @@ module _ (b : Bank) (q : Cache) (s : Bank) (es : Made b s restoredCsp) where
 
     pub interrupt-stopped : 2 ^ 32 ≤ x → gave (ended (answerOf x) d q) u ≡ interpret logging (interruptSequence (cpu b q) v) t
     unfolding interruptSequence
-    interrupt-stopped h = stopped-there (pushPair (restoredCsp (cpu b q)) (word b pc)) then-vector x d q t u pushed h
+    interrupt-stopped h = ended-stops d q x (pushPair (restoredCsp (cpu b q)) (word b pc)) then-vector t u pushed h
 
     pub interrupt-taken : x < 2 ^ 32 → (g : Gave Journaled (Out Cpu)) → g ≡ interpret logging (throughVector (cpu d q) v) u → g ≡ interpret logging (interruptSequence (cpu b q) v) t
     unfolding interruptSequence
-    interrupt-taken h g f = f ∙ sym (went-on (pushPair (restoredCsp (cpu b q)) (word b pc)) then-vector x d q t u pushed h)
+    interrupt-taken h g f = f ∙ sym (ended-goes d q x (pushPair (restoredCsp (cpu b q)) (word b pc)) then-vector t u pushed h)
 
   module _ (n x : ℕ) (d : Bank) (t u : Journaled) (e : gave (ended (answerOf x) d q) u ≡ interpret logging (pushFrame (cpu s q) n (word b pc)) t) where
     abbrev then-handler : Cpu → Program (Out Cpu)
@@ -47,11 +48,11 @@ module _ (b : Bank) (q : Cache) (s : Bank) (es : Made b s restoredCsp) where
 
     pub exception-stopped : 2 ^ 32 ≤ x → gave (ended (answerOf x) d q) u ≡ interpret logging (exceptionSequence (cpu b q) n) t
     unfolding exceptionSequence
-    exception-stopped h = stopped-there (pushFrame (restoredCsp (cpu b q)) n (word b pc)) then-handler x d q t u pushed' h
+    exception-stopped h = ended-stops d q x (pushFrame (restoredCsp (cpu b q)) n (word b pc)) then-handler t u pushed' h
 
     pub exception-taken : x < 2 ^ 32 → (g : Gave Journaled (Out Cpu)) → g ≡ interpret logging (throughVector (cpu d q) exceptionVector) u → g ≡ interpret logging (exceptionSequence (cpu b q) n) t
     unfolding exceptionSequence
-    exception-taken h g f = f ∙ sym (went-on (pushFrame (restoredCsp (cpu b q)) n (word b pc)) then-handler x d q t u pushed' h)
+    exception-taken h g f = f ∙ sym (ended-goes d q x (pushFrame (restoredCsp (cpu b q)) n (word b pc)) then-handler t u pushed' h)
 
 -- ---- PC at the current stack pointer
 
@@ -86,12 +87,12 @@ module _ (b : Bank) (q : Cache) (t : Journaled) where
 
     pub save-stopped : 2 ^ 32 ≤ x → gave (ended (answerOf x) s p) u ≡ interpret logging (unimplementedSequence (cpu b q) v) t
     unfolding unimplementedSequence
-    save-stopped h = stopped-there savePc then-read x s p t u e h
+    save-stopped h = ended-stops s p x savePc then-read t u e h
 
     module _ (h : x < 2 ^ 32) (i : ℕ) (ei : i ≡ plusOf (word s vb) v) (y : ℕ) (w : Journaled) (f : gave (answerOf y) w ≡ logging (read (kernelRegime s) Word i) u) where
       saved : interpret logging (unimplementedSequence (cpu b q) v) t ≡ interpret logging (readFrame (cpu s p) i >>= then-go (cpu s p)) u
       unfolding unimplementedSequence
-      saved = rw ei (went-on savePc then-read x s p t u e h)
+      saved = rw ei (ended-goes s p x savePc then-read t u e h)
 
       pub unimplemented-stopped : 2 ^ 32 ≤ y → gave (ended (answerOf (2 ^ 32)) s p) w ≡ interpret logging (unimplementedSequence (cpu b q) v) t
       unimplemented-stopped k = load-stopped s p y i u w (then-go (cpu s p)) f k ∙ sym saved

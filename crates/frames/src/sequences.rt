@@ -4,11 +4,12 @@ use crate::pushes::push_pair;
 use crate::pushes::through_vector;
 use access::data::read_frame;
 use access::data::write_frame;
+use access::transfers::store;
 use bank::flow::jumped;
 use bank::flow::restored_csp;
-use control::words::write_word;
 use machine::status::sp_current;
 use memory::answers::low32;
+use word::Width;
 use word::sums::plus;
 ghost use mathlib.Core.Path.{_≡_};
 ghost use mathlib.Core.Bool.{cond};
@@ -95,7 +96,7 @@ fn save_pc(
     if sp_current(r) {
         let s = r[8];
         let p = r[5];
-        write_word(m, places, words, q, r, s, p)
+        store(m, places, words, q, r, Width::Word, s, p)
     } else {
         store_pc(m, places, words, q, r)
     }

@@ -22,7 +22,7 @@ use Rattle.access.specs.Parts.{Out, ok, onward, _>>=_, done, replied}
 use Rattle.access.specs.Code.{ended}
 use Rattle.access.specs.Moves.{fillWord, filled, fillQuad, mayFill, fill}
 use Rattle.access.proofs.Bind.{bind, requested, bind-low, bind-high}
-use Rattle.moves.proofs.Stops.{faultBank, stopped}
+use Rattle.access.proofs.PartLaws.{faultBank, stopped}
 
 -- ---- a quad-word: word by word
 

@@ -22,7 +22,7 @@ use Rattle.access.specs.Parts.{Out, ok, onward, _>>=_, done, replied}
 use Rattle.access.specs.Code.{ended}
 use Rattle.access.specs.Moves.{flushWord, flushQuad, mayFlush, flush}
 use Rattle.access.proofs.Bind.{bind, requested, bind-low, bind-high}
-use Rattle.moves.proofs.Stops.{faultBank, stopped}
+use Rattle.access.proofs.PartLaws.{faultBank, stopped}
 
 pub flushed-word : (b : Bank) (q : Cache) (a y : ℕ) (u v : Bool) (x : Answer) (t s : Journaled) → y ≡ cacheWord q a → u ≡ isUser b → v ≡ isVirtual b
     → gave x s ≡ logging (write (regimeFor (getD b 9 0) u v) Word a y) t → gave (replied (cpu b q) a x) s ≡ interpret logging (flushWord (cpu b q) a) t

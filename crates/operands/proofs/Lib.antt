@@ -1,4 +1,3 @@
-pub mod PartLaws
 pub mod PlaceLaws
 pub mod ReadLaws
 pub mod WriteLaws

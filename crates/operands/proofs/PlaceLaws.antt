@@ -18,13 +18,14 @@ use Rattle.machine.specs.Cache.{Cache}
 use Rattle.machine.specs.Status.{cpu}
 use Rattle.access.specs.Parts.{ok, onward, _>>=_, done}
 use Rattle.access.specs.Data.{readData}
+use Rattle.access.specs.Code.{valued}
 use Rattle.access.proofs.Bind.{bind}
 use Rattle.exec.specs.Operands.{kindOf, stackAddress, inMemory, located, locate}
 use Rattle.alu.specs.declared.OperandKind.{OperandKind}
 use Rattle.alu.specs.declared.OperandKind.the-variants.{Absolute, Offset, Indirect, Constant}
 use Rattle.alu.specs.Modes.{kindFrom, absoluteOn}
 use Rattle.alu.proofs.Laws.{absolute-address}
-use Rattle.operands.specs.Code.{isConstant, valued, placed}
+use Rattle.operands.specs.Code.{isConstant, placed}
 
 pub kind-told : (m : Mode) (k j : OperandKind) (x : Bool) → kindFrom k ≡ kindOf m → k ≡ j → x ≡ isConstant (kindFrom j) → x ≡ isConstant (kindOf m)
 kind-told m k j x e h f = rw (← e, h) f

@@ -19,9 +19,10 @@ use Rattle.machine.specs.Cache.{Cache}
 use Rattle.machine.specs.Status.{cpu}
 use Rattle.access.specs.Parts.{Out, ok, done}
 use Rattle.access.specs.Data.{readData}
+use Rattle.access.specs.Code.{valued}
+use Rattle.access.proofs.PartLaws.{goes, stops-giving}
 use Rattle.exec.specs.Operands.{kindOf, widthOf, expanded, inMemory, locate, readPlace, readOperand}
-use Rattle.operands.specs.Code.{isConstant, generalAt, placeAt, valued, placed}
-use Rattle.operands.proofs.PartLaws.{goes, stops-giving}
+use Rattle.operands.specs.Code.{isConstant, generalAt, placeAt, placed}
 
 pub word-past : (b : Bank) (k : ℕ) → length b ≡ 17 → 17 ≤ k → 0 ≡ word b k
 word-past b k e h = sym (List·getD-eq-default b 0 {n = k} (omega arith))

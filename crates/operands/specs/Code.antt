@@ -2,14 +2,14 @@
 -- Assumes nothing.
 use Prim.Native.Nat.{ℕ}
 use mathlib.Core.Bool.{Bool, true, false, cond}
-use Rattle.memory.specs.Answers.{Answer, got, bad}
+use Rattle.memory.specs.Answers.{Answer}
 use Rattle.isa.specs.declared.Mode.{Mode}
 use Rattle.isa.specs.declared.Operand.{Operand}
 use Rattle.isa.specs.declared.Operand.the-variants.{General, Register}
 use Rattle.machine.specs.Registers.{Bank, registerOf}
 use Rattle.machine.specs.Cache.{Cache}
-use Rattle.machine.specs.Status.{cpu}
-use Rattle.access.specs.Parts.{Out, ok, stop}
+use Rattle.access.specs.Parts.{Out}
+use Rattle.access.specs.Code.{giving}
 use Rattle.exec.specs.Operands.{Kind, absolute, offset, indirect, constant, kindOf, Place, inMemory, inRegister, literal}
 
 abbrev pub isConstant : Kind → Bool
@@ -25,14 +25,6 @@ generalAt k m v a = cond (isConstant k) (literal v) (inMemory m a)
 abbrev pub placeAt : Operand → ℕ → Place
 placeAt (General m v) a = generalAt (kindOf m) m v a
 placeAt (Register n) a = inRegister (registerOf n)
-
--- an answer whose value is made into another, or the exception with the machine as it then is
-abbrev pub giving : {A : Type 0} → (ℕ → A) → Answer → Bank → Cache → Out A
-giving f (got v) b q = ok (f v)
-giving f (bad e) b q = stop e (cpu b q)
-
-abbrev pub valued : Answer → Bank → Cache → Out ℕ
-valued x b q = giving (λ v. v) x b q
 
 abbrev pub placed : Operand → Answer → Bank → Cache → Out Place
 placed o x b q = giving (placeAt o) x b q

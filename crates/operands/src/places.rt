@@ -1,7 +1,7 @@
 // Where operands are, and how they are read and written there: an address stands for a place in memory, 0 for others.
-use crate::accesses::load;
-use crate::accesses::store;
 use crate::registers::word_at;
+use access::transfers::load;
+use access::transfers::store;
 use alu::OperandKind;
 use alu::modes::absolute;
 use alu::modes::expand;
@@ -24,9 +24,9 @@ ghost use Rattle.program.specs.Program.{interpret};
 ghost use Rattle.program.specs.Journal.{journaled, logging};
 ghost use Rattle.machine.specs.Status.{cpu};
 ghost use Rattle.isa.specs.declared.Operand.the-variants as operand;
-ghost use Rattle.access.specs.Code.{ended};
+ghost use Rattle.access.specs.Code.{valued, ended};
 ghost use Rattle.exec.specs.Operands.{kindOf, located, locate, inMemory, readPlace, readOperand, writePlace};
-ghost use Rattle.operands.specs.Code.{isConstant, generalAt, placeAt, valued, placed};
+ghost use Rattle.operands.specs.Code.{isConstant, generalAt, placeAt, placed};
 
 // Whether a mode's operand is in the instruction.
 pub fn is_constant(mode: Mode) -> bool

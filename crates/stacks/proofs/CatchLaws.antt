@@ -18,9 +18,10 @@ use Rattle.machine.specs.Status.{Cpu, cpu, reg, with, isUser, isVirtual, spCurr
 use Rattle.access.specs.Parts.{Out, _>>=_, done}
 use Rattle.access.specs.Code.{ended}
 use Rattle.access.specs.Moves.{fill}
+use Rattle.access.proofs.PartLaws.{goes, stops-ended, ended-goes, ended-stops}
 use Rattle.exec.specs.Control.{advanced}
 use Rattle.exec.specs.Stack.{stackTarget, checkMsp, quadWords, catchTo, catchCurrent, catch}
-use Rattle.control.proofs.Ways.{finished, went-on, stopped-there, value-on, value-stopped}
+use Rattle.control.proofs.Ways.{finished}
 use Rattle.control.proofs.WordLaws.{Valued}
 use Rattle.control.proofs.FlowLaws.{Made}
 
@@ -35,21 +36,21 @@ module _ (b : Bank) (q : Cache) (g : Regime) (target x : ℕ) (d : Bank) (p : Ca
 
   pub fill-stopped : 2 ^ 32 ≤ x → gave (ended (answerOf x) d p) u ≡ interpret logging (catchTo (cpu b q) g target) t
   unfolding catchTo
-  fill-stopped h = stopped-there (fill g target quadWords (cpu b q)) then-check x d p t u e h
+  fill-stopped h = ended-stops d p x (fill g target quadWords (cpu b q)) then-check t u e h
 
   module _ (h : x < 2 ^ 32) (y : ℕ) (s : Bank) (w : Journaled) (f : Valued d p y s (checkMsp (cpu d p) g (word b msp) (word d msp)) u w) where
     filled : interpret logging (catchTo (cpu b q) g target) t ≡ interpret logging (then-check (cpu d p)) u
     unfolding catchTo
-    filled = went-on (fill g target quadWords (cpu b q)) then-check x d p t u e h
+    filled = ended-goes d p x (fill g target quadWords (cpu b q)) then-check t u e h
 
     pub check-stopped : 2 ^ 32 ≤ y → gave (ended (answerOf y) s p) w ≡ interpret logging (catchTo (cpu b q) g target) t
-    check-stopped k = value-stopped (checkMsp (cpu d p) g (word b msp) (word d msp)) y s p u w (f .0) (then-keep (cpu d p)) k ∙ sym filled
+    check-stopped k = stops-ended (λ v. v) s p y (checkMsp (cpu d p) g (word b msp) (word d msp)) (then-keep (cpu d p)) u w (f .0) k ∙ sym filled
 
     pub caught : y < 2 ^ 32 → gave (ended (answerOf y) s p) w ≡ interpret logging (catchTo (cpu b q) g target) t
     unfolding interpret
     caught k =
         finished y s p (cpu d p) w k (ap (λ (n : Bank). cpu n p) (f .1 k))
-        ∙ sym (filled ∙ value-on (checkMsp (cpu d p) g (word b msp) (word d msp)) y s p u w (f .0) (then-keep (cpu d p)) k)
+        ∙ sym (filled ∙ goes (λ v. v) s p y (checkMsp (cpu d p) g (word b msp) (word d msp)) (then-keep (cpu d p)) u w (f .0) k)
 
 -- ---- by the target: s is the bank after it
 
@@ -59,7 +60,7 @@ module _ (b : Bank) (q : Cache) (k : MonadicMode) (v x : ℕ) (s : Bank) (t u : 
 
   pub target-stopped : 2 ^ 32 ≤ x → gave (ended (answerOf x) s q) u ≡ interpret logging (catchCurrent (cpu b q) k v) t
   unfolding catchCurrent
-  target-stopped h = value-stopped (stackTarget (cpu b q) k v) x s q t u (e .0) then-catch h
+  target-stopped h = stops-ended (λ v. v) s q x (stackTarget (cpu b q) k v) then-catch t u (e .0) h
 
   module _ (h : x < 2 ^ 32) (z : Bool) (ez : z ≡ cacheOn s) where
     kept : s ≡ b
@@ -70,7 +71,7 @@ module _ (b : Bank) (q : Cache) (k : MonadicMode) (v x : ℕ) (s : Bank) (t u : 
 
     targeted : interpret logging (catchCurrent (cpu b q) k v) t ≡ interpret logging (then-catch (x % 2 ^ 32)) u
     unfolding catchCurrent
-    targeted = value-on (stackTarget (cpu b q) k v) x s q t u (e .0) then-catch h
+    targeted = goes (λ v. v) s q x (stackTarget (cpu b q) k v) then-catch t u (e .0) h
 
     pub current-caught : z ≡ true → (i j : Bool) → i ≡ isUser s → j ≡ isVirtual s → (a : ℕ) → a ≡ x % 2 ^ 32 → (g : Gave Journaled (Out Cpu))
         → g ≡ interpret logging (catchTo (cpu s q) (regimeFor (getD s 9 0) i j) a) u → g ≡ interpret logging (catchCurrent (cpu b q) k v) t
@@ -110,8 +111,8 @@ module _ (b : Bank) (q : Cache) (k : MonadicMode) (v : ℕ) (t : Journaled) wher
 
     pub catch-stopped : 2 ^ 32 ≤ x → gave (ended (answerOf x) d p) u ≡ interpret logging (catch (cpu b q) k v n) t
     unfolding catch
-    catch-stopped h = stopped-there catchHeld then-advance x d p t u e h
+    catch-stopped h = ended-stops d p x catchHeld then-advance t u e h
 
     pub catch-done : x < 2 ^ 32 → (s : Bank) → Made d s (λ c. advanced c n) → gave (ended (answerOf x) s p) u ≡ interpret logging (catch (cpu b q) k v n) t
     unfolding catch interpret
-    catch-done h s f = finished x s p (advanced (cpu d p) n) u h (f p) ∙ sym (went-on catchHeld then-advance x d p t u e h)
+    catch-done h s f = finished x s p (advanced (cpu d p) n) u h (f p) ∙ sym (ended-goes d p x catchHeld then-advance t u e h)

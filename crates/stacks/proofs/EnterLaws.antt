@@ -18,14 +18,14 @@ use Rattle.machine.specs.Cache.{Cache}
 use Rattle.machine.specs.Status.{Cpu, cpu, with, isUser, isVirtual, spCurrent, cacheOn, regime}
 use Rattle.access.specs.Parts.{Out, _>>=_, done}
 use Rattle.access.specs.Data.{checkStore}
-use Rattle.access.specs.Code.{ended}
+use Rattle.access.specs.Code.{ended, valued}
 use Rattle.access.specs.Moves.{flush}
+use Rattle.access.proofs.PartLaws.{goes, stops-ended, ended-goes, ended-stops}
 use Rattle.exec.specs.Control.{withCsp, withGuard, advanced}
 use Rattle.exec.specs.Stack.{stackTarget, checkMsp, quadWords, clipped, enterPlain, enterUncached, enterEmpty, enterOffset, enterAt, enter}
-use Rattle.control.proofs.Ways.{finished, went-on, stopped-there, value-on, value-stopped}
+use Rattle.control.proofs.Ways.{finished}
 use Rattle.control.proofs.WordLaws.{Valued}
 use Rattle.control.proofs.FlowLaws.{Made}
-use Rattle.control.specs.Code.{valued}
 use Rattle.stacks.specs.Code.{enterClipped}
 
 -- ---- nothing moved: s is the bank after the check, d with the stack pointer set
@@ -39,11 +39,11 @@ module _ (b : Bank) (q : Cache) (target x : ℕ) (s : Bank) (t u : Journaled) (e
 
   pub plain-stopped : 2 ^ 32 ≤ x → gave (ended (answerOf x) s q) u ≡ interpret logging (enterPlain (cpu b q) target) t
   unfolding enterPlain
-  plain-stopped h = value-stopped (checkStore (cpu b q) target) x s q t u (e .0) then-csp h
+  plain-stopped h = stops-ended (λ v. v) s q x (checkStore (cpu b q) target) then-csp t u (e .0) h
 
   pub uncached-stopped : 2 ^ 32 ≤ x → gave (ended (answerOf x) s q) u ≡ interpret logging (enterUncached (cpu b q) target) t
   unfolding enterUncached
-  uncached-stopped h = value-stopped (checkStore (cpu b q) target) x s q t u (e .0) then-both h
+  uncached-stopped h = stops-ended (λ v. v) s q x (checkStore (cpu b q) target) then-both t u (e .0) h
 
   module _ (h : x < 2 ^ 32) (d : Bank) (f : Made s d (λ c. withCsp c target)) where
     set-down : cpu d q ≡ withCsp (cpu b q) target
@@ -51,13 +51,13 @@ module _ (b : Bank) (q : Cache) (target x : ℕ) (s : Bank) (t u : Journaled) (e
 
     pub plain-done : gave (ended (answerOf x) d q) u ≡ interpret logging (enterPlain (cpu b q) target) t
     unfolding enterPlain interpret
-    plain-done = finished x d q (withCsp (cpu b q) target) u h set-down ∙ sym (value-on (checkStore (cpu b q) target) x s q t u (e .0) then-csp h)
+    plain-done = finished x d q (withCsp (cpu b q) target) u h set-down ∙ sym (goes (λ v. v) s q x (checkStore (cpu b q) target) then-csp t u (e .0) h)
 
     pub uncached-done : gave (ended (answerOf x) (set d 4 target) q) u ≡ interpret logging (enterUncached (cpu b q) target) t
     unfolding enterUncached interpret
     uncached-done =
         finished x (set d 4 target) q (with (withCsp (cpu b q) target) msp target) u h (ap (λ (c : Cpu). with c msp target) set-down)
-        ∙ sym (value-on (checkStore (cpu b q) target) x s q t u (e .0) then-both h)
+        ∙ sym (goes (λ v. v) s q x (checkStore (cpu b q) target) then-both t u (e .0) h)
 
 -- ---- after the flush: d is the bank that it left
 
@@ -68,11 +68,11 @@ module _ (b : Bank) (q : Cache) (target x : ℕ) (d : Bank) (t u : Journaled) wh
 
     pub empty-stopped : 2 ^ 32 ≤ x → gave (ended (answerOf x) d q) u ≡ interpret logging (enterEmpty (cpu b q) target) t
     unfolding enterEmpty enterUncached
-    empty-stopped h = stopped-there (flush true target quadWords (cpu b q)) then-empty x d q t u e h
+    empty-stopped h = ended-stops d q x (flush true target quadWords (cpu b q)) then-empty t u e h
 
     pub empty-done : x < 2 ^ 32 → (g : Gave Journaled (Out Cpu)) → g ≡ interpret logging (enterUncached (cpu d q) target) u → g ≡ interpret logging (enterEmpty (cpu b q) target) t
     unfolding enterEmpty enterUncached
-    empty-done h g f = f ∙ sym (went-on (flush true target quadWords (cpu b q)) then-empty x d q t u e h)
+    empty-done h g f = f ∙ sym (ended-goes d q x (flush true target quadWords (cpu b q)) then-empty t u e h)
 
   module _ (e : gave (ended (answerOf x) d q) u ≡ interpret logging (flush false target quadWords (cpu b q)) t) where
     abbrev then-clipped : Cpu → Program (Out Cpu)
@@ -80,11 +80,11 @@ module _ (b : Bank) (q : Cache) (target x : ℕ) (d : Bank) (t u : Journaled) wh
 
     pub offset-stopped : 2 ^ 32 ≤ x → gave (ended (answerOf x) d q) u ≡ interpret logging (enterOffset (cpu b q) target) t
     unfolding enterOffset enterClipped
-    offset-stopped h = stopped-there (flush false target quadWords (cpu b q)) then-clipped x d q t u e h
+    offset-stopped h = ended-stops d q x (flush false target quadWords (cpu b q)) then-clipped t u e h
 
     pub offset-done : x < 2 ^ 32 → (g : Gave Journaled (Out Cpu)) → g ≡ interpret logging (enterClipped (cpu d q) target (word b msp)) u → g ≡ interpret logging (enterOffset (cpu b q) target) t
     unfolding enterOffset enterClipped
-    offset-done h g f = f ∙ sym (went-on (flush false target quadWords (cpu b q)) then-clipped x d q t u e h)
+    offset-done h g f = f ∙ sym (ended-goes d q x (flush false target quadWords (cpu b q)) then-clipped t u e h)
 
 -- ---- MSP clipped to the cache's size
 
@@ -107,7 +107,7 @@ module _ (b : Bank) (q : Cache) (target old new : ℕ) (en : new ≡ clipped old
 
   pub clipped-first : 2 ^ 32 ≤ x → gave (ended (answerOf x) s q) u ≡ interpret logging (enterClipped (cpu b q) target old) t
   unfolding enterClipped
-  clipped-first h = value-stopped (checkStore (cpu b q) target) x s q t u (e .0) (then-msp (clipped old (word b msp) target)) h
+  clipped-first h = stops-ended (λ v. v) s q x (checkStore (cpu b q) target) (then-msp (clipped old (word b msp) target)) t u (e .0) h
 
   module _ (h : x < 2 ^ 32) (y z : Bool) (ey : y ≡ isUser s) (ez : z ≡ isVirtual s) (v : ℕ) (d : Bank) (w : Journaled)
       (f : Valued s q v d (checkMsp (cpu s q) (regimeFor (getD s 9 0) y z) old new) u w) where
@@ -119,16 +119,16 @@ module _ (b : Bank) (q : Cache) (target old new : ℕ) (en : new ≡ clipped old
 
     first-checked : interpret logging (enterClipped (cpu b q) target old) t ≡ interpret logging (then-msp new (x % 2 ^ 32)) u
     unfolding enterClipped
-    first-checked = rw en (value-on (checkStore (cpu b q) target) x s q t u (e .0) (then-msp (clipped old (word b msp) target)) h)
+    first-checked = rw en (goes (λ v. v) s q x (checkStore (cpu b q) target) (then-msp (clipped old (word b msp) target)) t u (e .0) h)
 
     pub clipped-second : 2 ^ 32 ≤ v → gave (ended (answerOf v) d q) w ≡ interpret logging (enterClipped (cpu b q) target old) t
-    clipped-second k = value-stopped (checkMsp (cpu b q) (regime b) old new) v d q u w second (then-set new) k ∙ sym first-checked
+    clipped-second k = stops-ended (λ v. v) d q v (checkMsp (cpu b q) (regime b) old new) (then-set new) u w second k ∙ sym first-checked
 
     pub clipped-done : v < 2 ^ 32 → (r : Bank) → Made d r (λ c. withCsp c target) → gave (ended (answerOf v) (set r 4 new) q) w ≡ interpret logging (enterClipped (cpu b q) target old) t
     unfolding interpret
     clipped-done k r g =
         finished v (set r 4 new) q (with (withCsp (cpu b q) target) msp new) w k (ap (λ (c : Cpu). with c msp new) (g q ∙ ap (λ (n : Bank). withCsp (cpu n q) target) (f .1 k ∙ e .1 h)))
-        ∙ sym (first-checked ∙ value-on (checkMsp (cpu b q) (regime b) old new) v d q u w second (then-set new) k)
+        ∙ sym (first-checked ∙ goes (λ v. v) d q v (checkMsp (cpu b q) (regime b) old new) (then-set new) u w second k)
 
 -- ---- which of them
 
@@ -162,7 +162,7 @@ module _ (b : Bank) (q : Cache) (k : MonadicMode) (v n x : ℕ) (s : Bank) (t u 
 
   pub enter-first : 2 ^ 32 ≤ x → gave (ended (answerOf x) s q) u ≡ interpret logging (enter (cpu b q) k v n) t
   unfolding enter
-  enter-first h = value-stopped (stackTarget (cpu b q) k v) x s q t u (e .0) then-enter h
+  enter-first h = stops-ended (λ v. v) s q x (stackTarget (cpu b q) k v) then-enter t u (e .0) h
 
   module _ (h : x < 2 ^ 32) (a : ℕ) (ea : a ≡ x % 2 ^ 32) (y : ℕ) (d : Bank) (w : Journaled) (f : gave (ended (answerOf y) d q) w ≡ interpret logging (enterAt (cpu s q) k (a / 16 * 16)) u) where
     same-target : interpret logging (enterAt (cpu s q) k (a / 16 * 16) >>= then-guard) u ≡ interpret logging (then-enter (x % 2 ^ 32)) u
@@ -170,13 +170,13 @@ module _ (b : Bank) (q : Cache) (k : MonadicMode) (v n x : ℕ) (s : Bank) (t u 
 
     targeted : interpret logging (enter (cpu b q) k v n) t ≡ interpret logging (enterAt (cpu s q) k (a / 16 * 16) >>= then-guard) u
     unfolding enter
-    targeted = value-on (stackTarget (cpu b q) k v) x s q t u (e .0) then-enter h ∙ sym same-target
+    targeted = goes (λ v. v) s q x (stackTarget (cpu b q) k v) then-enter t u (e .0) h ∙ sym same-target
 
     pub enter-second : 2 ^ 32 ≤ y → gave (ended (answerOf y) d q) w ≡ interpret logging (enter (cpu b q) k v n) t
-    enter-second l = stopped-there (enterAt (cpu s q) k (a / 16 * 16)) then-guard y d q u w f l ∙ sym targeted
+    enter-second l = ended-stops d q y (enterAt (cpu s q) k (a / 16 * 16)) then-guard u w f l ∙ sym targeted
 
     pub enter-done : y < 2 ^ 32 → (r : Bank) → Made d r (λ c. withGuard c true) → (i : Bank) → Made r i (λ c. advanced c n) → gave (ended (answerOf y) i q) w ≡ interpret logging (enter (cpu b q) k v n) t
     unfolding interpret
     enter-done l r er i ei =
         finished y i q (advanced (withGuard (cpu d q) true) n) w l (ei q ∙ ap (λ (c : Cpu). advanced c n) (er q))
-        ∙ sym (targeted ∙ went-on (enterAt (cpu s q) k (a / 16 * 16)) then-guard y d q u w f l)
+        ∙ sym (targeted ∙ ended-goes d q y (enterAt (cpu s q) k (a / 16 * 16)) then-guard u w f l)

@@ -19,9 +19,10 @@ use Rattle.machine.specs.Status.{Cpu, cpu, with, isUser, kernelRegime}
 use Rattle.access.specs.Parts.{Out, _>>=_, done}
 use Rattle.access.specs.Data.{readFrame}
 use Rattle.access.specs.Code.{ended}
+use Rattle.access.proofs.PartLaws.{ended-goes, ended-stops}
 use Rattle.exec.specs.Stack.{catchTo}
 use Rattle.exec.specs.Frames.{restoredRegime, cretFill, cret, returned}
-use Rattle.control.proofs.Ways.{finished, went-on, stopped-there, loaded-on, load-stopped}
+use Rattle.control.proofs.Ways.{finished, loaded-on, load-stopped}
 use Rattle.control.proofs.FlowLaws.{Made}
 use Rattle.stacks.specs.Code.{cretCaught, cretFrom, cretAfter}
 
@@ -40,12 +41,12 @@ module _ (b : Bank) (q : Cache) (n p : ℕ) (y z : Bool) (ey : y ≡ isUser b) (
 
   pub caught-stopped : 2 ^ 32 ≤ x → gave (ended (answerOf x) d c) u ≡ interpret logging (cretCaught (cpu b q) n p) t
   unfolding cretCaught
-  caught-stopped h = stopped-there (catchTo (cpu b q) (restoredRegime (cpu b q) p) n) then-msp x d c t u caught h
+  caught-stopped h = ended-stops d c x (catchTo (cpu b q) (restoredRegime (cpu b q) p) n) then-msp t u caught h
 
   pub caught-done : x < 2 ^ 32 → gave (ended (answerOf x) (set d 4 n) c) u ≡ interpret logging (cretCaught (cpu b q) n p) t
   unfolding cretCaught interpret
   caught-done h =
-      finished x (set d 4 n) c (with (cpu d c) msp n) u h refl ∙ sym (went-on (catchTo (cpu b q) (restoredRegime (cpu b q) p) n) then-msp x d c t u caught h)
+      finished x (set d 4 n) c (with (cpu d c) msp n) u h refl ∙ sym (ended-goes d c x (catchTo (cpu b q) (restoredRegime (cpu b q) p) n) then-msp t u caught h)
 
 -- ---- whether it is filled
 
@@ -75,12 +76,12 @@ module _ (b : Bank) (q : Cache) (s m a p n : ℕ) (en : n ≡ kept sp s) (x : �
 
   pub from-stopped : 2 ^ 32 ≤ x → gave (ended (answerOf x) d c) u ≡ interpret logging (cretFrom (cpu b q) s m a p) t
   unfolding cretFrom
-  from-stopped h = stopped-there (cretFill (with (with (cpu b q) sp (kept sp s)) msp (kept sp s)) m p) then-return x d c t u started h
+  from-stopped h = ended-stops d c x (cretFill (with (with (cpu b q) sp (kept sp s)) msp (kept sp s)) m p) then-return t u started h
 
   pub from-done : x < 2 ^ 32 → (f : Bank) → Made d f (λ i. returned i a p) → gave (ended (answerOf x) f c) u ≡ interpret logging (cretFrom (cpu b q) s m a p) t
   unfolding cretFrom interpret
   from-done h f ef =
-      finished x f c (returned (cpu d c) a p) u h (ef c) ∙ sym (went-on (cretFill (with (with (cpu b q) sp (kept sp s)) msp (kept sp s)) m p) then-return x d c t u started h)
+      finished x f c (returned (cpu d c) a p) u h (ef c) ∙ sym (ended-goes d c x (cretFill (with (with (cpu b q) sp (kept sp s)) msp (kept sp s)) m p) then-return t u started h)
 
 -- ---- the frame's words: PC and PSW
 

@@ -25,10 +25,10 @@ use Rattle.machine.specs.Status.{cpu, isUser, isVirtual}
 use Rattle.access.specs.Parts.{replied, request}
 use Rattle.access.specs.Data.{readData, checkStore}
 use Rattle.access.proofs.Bind.{requested}
-use Rattle.moves.proofs.Stops.{faultBank}
+use Rattle.access.proofs.PartLaws.{faultBank, load-fault, load-went}
 use Rattle.exec.specs.Operands.{stackAddress}
 use Rattle.exec.specs.Stack.{stackTarget, checkMsp}
-use Rattle.control.proofs.WordLaws.{Valued, read-faulted, word-read}
+use Rattle.control.proofs.WordLaws.{Valued}
 
 -- ---- the target, by the mode
 
@@ -113,10 +113,10 @@ module _ (b : Bank) (q : Cache) (g : Regime) (a x : ℕ) (m : Memory) (i : List 
   asked = sym (requested (cpu b q) (answerOf x) (journaled m i o) (journaled m i o) (probe g a) a (probed g a (answerOf x) m i o e))
 
   pub check-faulted : (s : Bank) → 2 ^ 32 ≤ x → s ≡ faultBank b x a → Valued b q x s (request (cpu b q) (probe g a) a) (journaled m i o) (journaled m i o)
-  check-faulted s h es = read-faulted b q a x (request (cpu b q) (probe g a) a) (journaled m i o) (journaled m i o) asked s h es
+  check-faulted s h es = load-fault b q x a (request (cpu b q) (probe g a) a) (journaled m i o) (journaled m i o) asked s h es
 
   pub checked : x < 2 ^ 32 → Valued b q x b (request (cpu b q) (probe g a) a) (journaled m i o) (journaled m i o)
-  checked h = word-read b q a x (request (cpu b q) (probe g a) a) (journaled m i o) (journaled m i o) asked h
+  checked h = load-went b q x a (request (cpu b q) (probe g a) a) (journaled m i o) (journaled m i o) asked h
 
 module _ (b : Bank) (q : Cache) (a x : ℕ) (s : Bank) (t u : Journaled) where
   pub target-checked : (y z : Bool) → y ≡ isUser b → z ≡ isVirtual b → Valued b q x s (request (cpu b q) (probe (regimeFor (getD b 9 0) y z) a) a) t u → Valued b q x s (checkStore (cpu b q) a) t u

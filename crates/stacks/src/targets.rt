@@ -1,11 +1,12 @@
 // Where ENTER and CATCH go, and the checks that stores are valid there. A fault leaves its address.
 use access::faults::set_fault;
+use access::transfers::load;
 use bank::flow::stack_address;
-use control::words::read_word;
 use isa::MonadicMode;
 use machine::status::is_user;
 use machine::status::is_virtual;
 use memory::answers::good;
+use word::Width;
 ghost use mathlib.Core.Path.{_≡_};
 ghost use Prim.Native.Nat.{_^_, _<_};
 ghost use Rattle.memory.specs.Answers.{answerOf};
@@ -16,8 +17,8 @@ ghost use Rattle.handler.specs.Followed.{regimeFor};
 ghost use Rattle.machine.specs.Status.{cpu};
 ghost use Rattle.access.specs.Parts.{request};
 ghost use Rattle.access.specs.Data.{checkStore};
+ghost use Rattle.access.specs.Code.{valued};
 ghost use Rattle.exec.specs.Stack.{stackTarget, checkMsp};
-ghost use Rattle.control.specs.Code.{valued};
 
 // The target of ENTER or CATCH.
 pub fn stack_target(
@@ -32,9 +33,9 @@ pub fn stack_target(
     ensures { λ x. ⌜ (gave (valued (answerOf x) (now (r .exit)) (now (q .entry))) (journaled (now (m .exit)) (now (places .exit)) (now (words .exit))) ≡ interpret logging (stackTarget (cpu (now (r .entry)) (now (q .entry))) mode v) (journaled (now (m .entry)) (now (places .entry)) (now (words .entry)))) × (x < 2 ^ 32 → now (r .exit) ≡ now (r .entry)) ⌝ }
 {
     match mode {
-        MonadicMode::WordAbsolute => read_word(m, places, words, q, r, v),
+        MonadicMode::WordAbsolute => load(m, places, words, q, r, Width::Word, v),
         MonadicMode::WordStack => good(stack_address(r, v)),
-        MonadicMode::WordIndirect => read_word(m, places, words, q, r, stack_address(r, v)),
+        MonadicMode::WordIndirect => load(m, places, words, q, r, Width::Word, stack_address(r, v)),
         MonadicMode::WordImmediate => good(v),
         MonadicMode::FlowAbsoluteIndirect => good(v),
         MonadicMode::FlowStackIndirect => good(v),

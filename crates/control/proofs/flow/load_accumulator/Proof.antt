@@ -7,30 +7,30 @@ use Rattle.control.proofs.flow.load_accumulator.Tie as tie
 stack-address-requires : tie.Need-stack-address-requires
 stack-address-requires c κs = search needs
 
-write-word-requires : tie.Need-write-word-requires
-write-word-requires c κs = search needs
+store-requires : tie.Need-store-requires
+store-requires c κs = search needs
 
 same-length : tie.Need-same-length
-same-length c = (c .before .before .before .write-word .kept .0)
+same-length c = (c .before .before .before .store .kept .0)
 
 returns : tie.Need-returns
-returns c = accumulated-stopped (c .before .before .before .before .before .before .before .before .before .before .before .before .args .r .now) (c .before .before .before .before .before .before .before .before .before .before .before .before .args .q .now) _ _ _ _ _ (journaled (c .before .before .before .before .before .before .before .before .before .before .before .before .args .m .now) (c .before .before .before .before .before .before .before .before .before .before .before .before .args .places .now) (c .before .before .before .before .before .before .before .before .before .before .before .before .args .words .now)) _ (c .before .before .before .write-word .ensures) (c .before .before .before .before .before .before .before .before .before .before .before .before .args .n) (c .before .before .before .before .before .before .before .before .before .stack-address .ensures) (c .if1 .taken)
+returns c = accumulated-stopped (c .before .before .before .before .before .before .before .before .before .before .before .before .args .r .now) (c .before .before .before .before .before .before .before .before .before .before .before .before .args .q .now) _ _ _ _ _ (journaled (c .before .before .before .before .before .before .before .before .before .before .before .before .args .m .now) (c .before .before .before .before .before .before .before .before .before .before .before .before .args .places .now) (c .before .before .before .before .before .before .before .before .before .before .before .before .args .words .now)) _ (c .before .before .before .store .ensures) (c .before .before .before .before .before .before .before .before .before .before .before .before .args .n) (c .before .before .before .before .before .before .before .before .before .stack-address .ensures) (c .if1 .taken)
 
 advanced-requires : tie.Need-advanced-requires
 advanced-requires c κs = search needs
 
 same-length-2 : tie.Need-same-length-2
-same-length-2 c = (c .before .before .before .before .before .write-word .kept .0)
+same-length-2 c = (c .before .before .before .before .before .store .kept .0)
 
 returns-2 : tie.Need-returns-2
-returns-2 c = accumulated-gone (c .before .before .before .before .before .before .before .before .before .before .before .before .before .before .args .r .now) (c .before .before .before .before .before .before .before .before .before .before .before .before .before .before .args .q .now) _ _ _ _ _ (journaled (c .before .before .before .before .before .before .before .before .before .before .before .before .before .before .args .m .now) (c .before .before .before .before .before .before .before .before .before .before .before .before .before .before .args .places .now) (c .before .before .before .before .before .before .before .before .before .before .before .before .before .before .args .words .now)) _ (c .before .before .before .before .before .write-word .ensures) (c .before .before .before .before .before .before .before .before .before .before .before .before .before .before .args .n) (c .before .before .before .before .before .before .before .before .before .before .before .stack-address .ensures) (c .before .before .if1 .left) _ (c .advanced .ensures)
+returns-2 c = accumulated-gone (c .before .before .before .before .before .before .before .before .before .before .before .before .before .before .args .r .now) (c .before .before .before .before .before .before .before .before .before .before .before .before .before .before .args .q .now) _ _ _ _ _ (journaled (c .before .before .before .before .before .before .before .before .before .before .before .before .before .before .args .m .now) (c .before .before .before .before .before .before .before .before .before .before .before .before .before .before .args .places .now) (c .before .before .before .before .before .before .before .before .before .before .before .before .before .before .args .words .now)) _ (c .before .before .before .before .before .store .ensures) (c .before .before .before .before .before .before .before .before .before .before .before .before .before .before .args .n) (c .before .before .before .before .before .before .before .before .before .before .before .stack-address .ensures) (c .before .before .if1 .left) _ (c .advanced .ensures)
 
 pub load-accumulator-spec : {M : Type 1} → statement M
 load-accumulator-spec =
     tie.close
     (tie.spec
     stack-address-requires
-    write-word-requires
+    store-requires
     same-length
     returns
     advanced-requires

@@ -13,17 +13,17 @@ element-copy-out-s c = search needs
 element-copy-out-p : tie.Need-element-copy-out-p
 element-copy-out-p c = search needs
 
-write-word-requires : tie.Need-write-word-requires
-write-word-requires c κs = search needs
+store-requires : tie.Need-store-requires
+store-requires c κs = search needs
 
 store-pc-requires : tie.Need-store-pc-requires
 store-pc-requires c κs = search needs
 
 same-length : tie.Need-same-length
-same-length c = (c .before .before .write-word .kept .0)
+same-length c = (c .before .before .store .kept .0)
 
 returns : tie.Need-returns
-returns c = saved-data (c .before .before .before .before .before .before .before .before .before .before .before .before .before .before .args .r .now) (c .before .before .before .before .before .before .before .before .before .before .before .before .before .before .args .q .now) (journaled (c .before .before .before .before .before .before .before .before .before .before .before .before .before .before .args .m .now) (c .before .before .before .before .before .before .before .before .before .before .before .before .before .before .args .places .now) (c .before .before .before .before .before .before .before .before .before .before .before .before .before .before .args .words .now)) _ (c .before .before .before .before .before .before .before .before .before .before .before .sp-current .ensures) _ (c .before .before .before .before .before .before .before .before .before .before .if1 .taken) (c .before .before .write-word .ensures)
+returns c = saved-data (c .before .before .before .before .before .before .before .before .before .before .before .before .before .before .args .r .now) (c .before .before .before .before .before .before .before .before .before .before .before .before .before .before .args .q .now) (journaled (c .before .before .before .before .before .before .before .before .before .before .before .before .before .before .args .m .now) (c .before .before .before .before .before .before .before .before .before .before .before .before .before .before .args .places .now) (c .before .before .before .before .before .before .before .before .before .before .before .before .before .before .args .words .now)) _ (c .before .before .before .before .before .before .before .before .before .before .before .sp-current .ensures) _ (c .before .before .before .before .before .before .before .before .before .before .if1 .taken) (c .before .before .store .ensures)
 
 same-length-2 : tie.Need-same-length-2
 same-length-2 c = (c .before .before .store-pc .kept .0)
@@ -38,7 +38,7 @@ save-pc-spec =
     sp-current-requires
     element-copy-out-s
     element-copy-out-p
-    write-word-requires
+    store-requires
     store-pc-requires
     same-length
     returns

@@ -7,8 +7,8 @@ use Rattle.stacks.proofs.targets.stack_target.Tie as tie
 enum-told : tie.Need-enum-told
 enum-told c = search needs
 
-read-word-requires : tie.Need-read-word-requires
-read-word-requires c κs = search needs
+load-requires : tie.Need-load-requires
+load-requires c κs = search needs
 
 enum-told-2 : tie.Need-enum-told-2
 enum-told-2 c = search needs
@@ -25,8 +25,8 @@ enum-told-3 c = search needs
 stack-address-requires-2 : tie.Need-stack-address-requires-2
 stack-address-requires-2 c κs = search needs
 
-read-word-requires-2 : tie.Need-read-word-requires-2
-read-word-requires-2 c κs = search needs
+load-requires-2 : tie.Need-load-requires-2
+load-requires-2 c κs = search needs
 
 enum-told-4 : tie.Need-enum-told-4
 enum-told-4 c = search needs
@@ -62,7 +62,7 @@ same-length : tie.Need-same-length
 same-length c = search needs
 
 returns : tie.Need-returns
-returns c = target-absolute (c .before .before .before .before .before .before .before .before .before .before .args .r .now) (c .before .before .before .before .before .before .before .before .before .before .args .q .now) (c .before .before .before .before .before .before .before .before .before .before .args .mode) (c .before .before .before .before .before .before .before .before .before .before .args .v) _ _ (journaled (c .before .before .before .before .before .before .before .before .before .before .args .m .now) (c .before .before .before .before .before .before .before .before .before .before .args .places .now) (c .before .before .before .before .before .before .before .before .before .before .args .words .now)) _ (c .before .before .before .before .before .before .before .enum-told .given .1) (c .before .before .read-word .ensures)
+returns c = target-absolute (c .before .before .before .before .before .before .before .before .before .before .args .r .now) (c .before .before .before .before .before .before .before .before .before .before .args .q .now) (c .before .before .before .before .before .before .before .before .before .before .args .mode) (c .before .before .before .before .before .before .before .before .before .before .args .v) _ _ (journaled (c .before .before .before .before .before .before .before .before .before .before .args .m .now) (c .before .before .before .before .before .before .before .before .before .before .args .places .now) (c .before .before .before .before .before .before .before .before .before .before .args .words .now)) _ (c .before .before .before .before .before .before .before .enum-told .given .1) (c .before .before .load .ensures)
 
 returns-2 : tie.Need-returns-2
 returns-2 c = target-stack (c .before .before .before .before .before .before .args .r .now) (c .before .before .before .before .before .before .args .q .now) (c .before .before .before .before .before .before .args .mode) (c .before .before .before .before .before .before .args .v) _ (journaled (c .before .before .before .before .before .before .args .m .now) (c .before .before .before .before .before .before .args .places .now) (c .before .before .before .before .before .before .args .words .now)) (c .before .before .before .enum-told2 .given .1) _ (c .before .stack-address .ensures) (c .good2 .ensures)
@@ -71,7 +71,7 @@ same-length-2 : tie.Need-same-length-2
 same-length-2 c = search needs
 
 returns-3 : tie.Need-returns-3
-returns-3 c = target-indirect (c .before .before .before .before .before .before .before .before .before .before .before .before .args .r .now) (c .before .before .before .before .before .before .before .before .before .before .before .before .args .q .now) (c .before .before .before .before .before .before .before .before .before .before .before .before .args .mode) (c .before .before .before .before .before .before .before .before .before .before .before .before .args .v) _ _ (journaled (c .before .before .before .before .before .before .before .before .before .before .before .before .args .m .now) (c .before .before .before .before .before .before .before .before .before .before .before .before .args .places .now) (c .before .before .before .before .before .before .before .before .before .before .before .before .args .words .now)) _ _ (c .before .before .before .stack-address2 .ensures) (c .before .before .before .before .before .before .before .before .before .enum-told3 .given .1) (c .before .before .read-word2 .ensures)
+returns-3 c = target-indirect (c .before .before .before .before .before .before .before .before .before .before .before .before .args .r .now) (c .before .before .before .before .before .before .before .before .before .before .before .before .args .q .now) (c .before .before .before .before .before .before .before .before .before .before .before .before .args .mode) (c .before .before .before .before .before .before .before .before .before .before .before .before .args .v) _ _ (journaled (c .before .before .before .before .before .before .before .before .before .before .before .before .args .m .now) (c .before .before .before .before .before .before .before .before .before .before .before .before .args .places .now) (c .before .before .before .before .before .before .before .before .before .before .before .before .args .words .now)) _ _ (c .before .before .before .stack-address2 .ensures) (c .before .before .before .before .before .before .before .before .before .enum-told3 .given .1) (c .before .before .load2 .ensures)
 
 returns-4 : tie.Need-returns-4
 returns-4 c = target-immediate (c .before .before .before .before .args .r .now) (c .before .before .before .before .args .q .now) (c .before .before .before .before .args .mode) (c .before .before .before .before .args .v) _ (journaled (c .before .before .before .before .args .m .now) (c .before .before .before .before .args .places .now) (c .before .before .before .before .args .words .now)) (c .good3 .ensures) (c .before .enum-told4 .given .1)
@@ -93,13 +93,13 @@ stack-target-spec =
     tie.close
     (tie.spec
     enum-told
-    read-word-requires
+    load-requires
     enum-told-2
     stack-address-requires
     good-requires
     enum-told-3
     stack-address-requires-2
-    read-word-requires-2
+    load-requires-2
     enum-told-4
     good-requires-2
     enum-told-5

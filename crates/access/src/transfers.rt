@@ -1,8 +1,7 @@
 // Data accesses that leave the address of a fault in FAULT.
-use access::data::read_data;
-use access::data::write_data;
-use access::faults::set_fault;
-use bank::flow::stack_address;
+use crate::data::read_data;
+use crate::data::write_data;
+use crate::faults::set_fault;
 use word::Width;
 ghost use mathlib.Core.Path.{_≡_};
 ghost use Prim.Native.Nat.{_<_, _^_};
@@ -11,10 +10,8 @@ ghost use Rattle.program.specs.Access.{gave};
 ghost use Rattle.program.specs.Program.{interpret};
 ghost use Rattle.program.specs.Journal.{journaled, logging};
 ghost use Rattle.machine.specs.Status.{cpu};
 ghost use Rattle.access.specs.Data.{readData, writeData};
-ghost use Rattle.access.specs.Code.{ended};
-ghost use Rattle.exec.specs.Operands.{writeAccumulator};
-ghost use Rattle.operands.specs.Code.{valued};
+ghost use Rattle.access.specs.Code.{valued, ended};
 
 // An operand as an unsigned number.
 pub fn load(
@@ -57,19 +54,4 @@ pub fn store(
     } else {
         x
     }
-}
-
-// The accumulator.
-pub fn write_accumulator(
-    m: &mut [u8],
-    places: &mut [u32; 201],
-    words: &mut [[u8; 4]; 200],
-    q: &mut [[u32; 4]; 16],
-    r: &mut [u32; 17],
-    v: u32,
-) -> u64
-    ensures { λ x. ⌜ gave (ended (answerOf x) (now (r .exit)) (now (q .exit))) (journaled (now (m .exit)) (now (places .exit)) (now (words .exit))) ≡ interpret logging (writeAccumulator (cpu (now (r .entry)) (now (q .entry))) v) (journaled (now (m .entry)) (now (places .entry)) (now (words .entry))) ⌝ }
-{
-    let a = stack_address(r, 4);
-    store(m, places, words, q, r, Width::Word, a, v)
 }

@@ -1,8 +1,8 @@
-use Rattle.operands.proofs.PartLaws.{store-fault, store-went}
+use Rattle.access.proofs.PartLaws.{store-fault, store-went}
 use Rattle.program.specs.Journal.{journaled}
 use borrow.Author.Needs.{needs}
-use Rattle.operands.proofs.accesses.store.Statement.{statement}
-use Rattle.operands.proofs.accesses.store.Tie as tie
+use Rattle.access.proofs.transfers.store.Statement.{statement}
+use Rattle.access.proofs.transfers.store.Tie as tie
 
 write-data-requires : tie.Need-write-data-requires
 write-data-requires c κs = search needs

@@ -14,10 +14,9 @@ use Rattle.program.specs.Journal.{Journaled, logging}
 use Rattle.machine.specs.Registers.{Bank}
 use Rattle.machine.specs.Cache.{Cache}
 use Rattle.machine.specs.Status.{Cpu, cpu}
-use Rattle.access.specs.Parts.{Out, ok, stop, onward, _>>=_, replied}
-use Rattle.access.specs.Code.{wrote, ended}
+use Rattle.access.specs.Parts.{Out, ok, stop, onward, _>>=_, faulted, replied}
+use Rattle.access.specs.Code.{wrote, ended, giving, valued}
 use Rattle.access.proofs.Bind.{bind, faulted-bank}
-use Rattle.operands.specs.Code.{giving, valued}
 
 pub not-both : (x : ℕ) → 2 ^ 32 ≤ x → x < 2 ^ 32 → ⊥
 not-both x h l = omega arith
@@ -69,6 +68,10 @@ module _ (b : Bank) (q : Cache) (x : ℕ) (p : Program (Out Cpu)) (g : Cpu → P
 -- the bank that a fault at the address a leaves
 abbrev pub faultBank : Bank → ℕ → ℕ → Bank
 faultBank b x a = cond (eqb (x % 2 ^ 32) 8 || eqb (x % 2 ^ 32) 9) (set b 1 a) b
+
+pub stopped : (b s : Bank) (q : Cache) (x a : ℕ) (u : Journaled) → 2 ^ 32 ≤ x → s ≡ faultBank b x a
+    → gave (ended (answerOf x) s q) u ≡ gave (stop (x % 2 ^ 32) (faulted (cpu b q) (x % 2 ^ 32) a)) u
+stopped b s q x a u h e = rw (answer-high x h, e, faulted-bank b q (x % 2 ^ 32) a) refl
 
 module _ (b : Bank) (q : Cache) (x a : ℕ) (p : Program (Out ℕ)) (t u : Journaled) (e : gave (replied (cpu b q) a (answerOf x)) u ≡ interpret logging p t) where
   pub load-fault : (s : Bank) → 2 ^ 32 ≤ x → s ≡ faultBank b x a → (gave (valued (answerOf x) s q) u ≡ interpret logging p t) × (x < 2 ^ 32 → s ≡ b)

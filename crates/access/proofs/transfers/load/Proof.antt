@@ -1,8 +1,8 @@
-use Rattle.operands.proofs.PartLaws.{load-fault, load-went}
+use Rattle.access.proofs.PartLaws.{load-fault, load-went}
 use Rattle.program.specs.Journal.{journaled}
 use borrow.Author.Needs.{needs}
-use Rattle.operands.proofs.accesses.load.Statement.{statement}
-use Rattle.operands.proofs.accesses.load.Tie as tie
+use Rattle.access.proofs.transfers.load.Statement.{statement}
+use Rattle.access.proofs.transfers.load.Tie as tie
 
 read-data-requires : tie.Need-read-data-requires
 read-data-requires c κs = search needs

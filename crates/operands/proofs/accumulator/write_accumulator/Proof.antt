@@ -1,8 +1,8 @@
 use Rattle.operands.proofs.WriteLaws.{accumulator-written}
 use Rattle.program.specs.Journal.{journaled}
 use borrow.Author.Needs.{needs}
-use Rattle.operands.proofs.accesses.write_accumulator.Statement.{statement}
-use Rattle.operands.proofs.accesses.write_accumulator.Tie as tie
+use Rattle.operands.proofs.accumulator.write_accumulator.Statement.{statement}
+use Rattle.operands.proofs.accumulator.write_accumulator.Tie as tie
 
 stack-address-requires : tie.Need-stack-address-requires
 stack-address-requires c κs = search needs
