@@ -1,12 +1,8 @@
 -- The ways out of the functions that cut fields and decode one parcel.
 -- Assumes nothing.
-use Prim.Native.Nat.{ℕ, _-_, _/_, _%_, _^_}
+use Prim.Native.Nat.{ℕ, _/_, _%_, _^_}
 use mathlib.Core.Path.{_≡_, refl, sym, _∙_}
-use native.Mathlib.Nat.{div-one, mod-mod}
-use native.Mathlib.Omega.{arith}
-use Rattle.word.specs.Shifts.{shlOf, shrOf}
-use Rattle.word.specs.Widths.{signExtendOf}
-use Rattle.word.proofs.WidthLaws.{sign-extend-by-shifts}
+use native.Mathlib.Nat.{div-one}
 use Rattle.isa.specs.declared.ShortRow.{ShortRow}
 use Rattle.isa.specs.declared.FieldMode.{FieldMode}
 use Rattle.isa.specs.declared.ShortEntry.{ShortEntry}
@@ -22,12 +18,6 @@ use Rattle.isa.specs.Decode.{shortEntry, shortInstruction, shortAnswer, decodeS
 -- a field at bit 0
 pub low-bits : (x k r : ℕ) → r ≡ x / 2 ^ 0 % 2 ^ k → r ≡ x % 2 ^ k
 low-bits x k r e = e ∙ simp div-one
-
--- a number shifted to the top of a word and back, by any n
-pub extended-bits : (n x y r : ℕ) → y ≡ shlOf x n → r ≡ shrOf y n → r ≡ signExtendOf (32 - n % 32) x
-extended-bits n x y r e f =
-    let k : 32 - (32 - n % 32) ≡ n % 32 = omega arith in
-    f ∙ rw e (simp (k, mod-mod) at (sign-extend-by-shifts (32 - n % 32) x (omega arith) (omega arith)))
 
 -- a field f of a known mode k
 pub source-is : (m k : FieldMode) (p f r : ℕ) → m ≡ k → f ≡ sourceField k p → r ≡ fieldValue k f

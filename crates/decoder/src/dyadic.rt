@@ -1,5 +1,4 @@
 // Dyadics of three and five parcels: 10 or 11, a six-bit opcode, two four-bit modes, two operand fields.
-use crate::fields::extend;
 use crate::fields::low;
 use bits::field;
 use isa::Answer;
@@ -17,6 +16,7 @@ use tables::legal::legal;
 use tables::modes::find_general;
 use tables::modes::find_prefixed;
 use tables::wide::find_dyadic;
+use word::widths::extend;
 ghost use mathlib.Core.Path.{_≡_};
 ghost use Rattle.isa.specs.declared.DyadicEntry.the-variants as entry;
 ghost use Rattle.isa.specs.Decode.{extended, operandValue, operandFound, modeEntry, dyadicAnswer, bothFound, decodeDyadic};

@@ -1,11 +1,9 @@
 // Operand fields, cut by shifts and masks, and what they stand for (sections 1.6.1 and 3.3, Table 3-2).
 use bits::field;
 use isa::FieldMode;
-use word::shifts::shl;
-use word::shifts::shr;
+use word::widths::extend;
 ghost use mathlib.Core.Path.{_≡_};
-ghost use Prim.Native.Nat.{_-_, _%_, _/_, _^_};
-ghost use Rattle.word.specs.Widths.{signExtendOf};
+ghost use Prim.Native.Nat.{_%_, _/_, _^_};
 ghost use Rattle.isa.specs.Fields.{sourceField, destinationField, fieldValue};
 
 // The low bits of x, as many as the low five bits of count say.
@@ -20,13 +18,6 @@ pub fn middle(p: u16) -> u32
     ensures { λ r. ⌜ r ≡ p / 32 % 32 ⌝ }
 {
     field(p as u32, 5, 5)
-}
-
-// A signed number in all but the top n bits, at 32 bits.
-pub fn extend(n: u32, x: u32) -> u32
-    ensures { λ r. ⌜ r ≡ signExtendOf (32 - n % 32) x ⌝ }
-{
-    shr(shl(x, n), n)
 }
 
 pub fn source_value(mode: FieldMode, p: u16) -> u32

@@ -1,9 +1,10 @@
 -- A law for each way out of a function.
 -- Assumes nothing.
-use mathlib.Core.Path.{_≡_, sym, _∙_}
+use mathlib.Core.Path.{_≡_, refl, sym, ap, _∙_}
 use mathlib.Core.Bool.{Bool, true, false, _&&_}
 use Prim.Native.Nat.{ℕ, _+_, _-_, _*_, _%_, _^_, _<_, _≤_}
-use native.Mathlib.Nat.{div-zero, mod-zero, add-zero}
+use native.Mathlib.Nat.{div-zero, mod-zero, add-zero, mod-mod}
+use native.Mathlib.Omega.{arith}
 use lib.Dec.{ltb, eqb}
 use Rattle.word.specs.declared.Sum.{Sum}
 use Rattle.word.specs.declared.Quotient.{Quotient}
@@ -13,6 +14,7 @@ use Rattle.word.specs.Sums.{plusOf, minusOf, addOf, subOf}
 use Rattle.word.specs.Products.{mulOf, udivOf, uremOf, divOf}
 use Rattle.word.specs.Shifts.{shlOf, ushrOf, shrOf}
 use Rattle.word.specs.declared.Width.{Width}
+use Rattle.word.specs.declared.Width.the-variants.{Byte, Half, Word}
 use Rattle.word.specs.Widths.{bitsOf, truncateOf, signExtendOf}
 use Rattle.word.proofs.WidthLaws.{bits-pos, bits-le, truncate-by-shifts, sign-extend-by-shifts}
 use Rattle.word.proofs.Laws.{shr-lt}
@@ -79,5 +81,16 @@ shifts-fit w k e = rw e (bits-le w)
 pub truncated : (w : Width) (x k y r : ℕ) → k ≡ bitsOf w → y ≡ shlOf x (32 - k) → r ≡ ushrOf y (32 - k) → r ≡ truncateOf (bitsOf w) x
 truncated w x k y r e f g = g ∙ rw (f, e) (truncate-by-shifts (bitsOf w) x (bits-pos w) (bits-le w))
 
-pub extended : (w : Width) (x k y r : ℕ) → k ≡ bitsOf w → y ≡ shlOf x (32 - k) → r ≡ shrOf y (32 - k) → r ≡ signExtendOf (bitsOf w) x
-extended w x k y r e f g = g ∙ rw (f, e) (sign-extend-by-shifts (bitsOf w) x (bits-pos w) (bits-le w))
+-- the same by any n, signed
+pub extended : (n x y r : ℕ) → y ≡ shlOf x n → r ≡ shrOf y n → r ≡ signExtendOf (32 - n % 32) x
+extended n x y r e f =
+    let k : 32 - (32 - n % 32) ≡ n % 32 = omega arith in
+    f ∙ rw e (simp (k, mod-mod) at (sign-extend-by-shifts (32 - n % 32) x (omega arith) (omega arith)))
+
+pub width-extended : (w : Width) (x k r : ℕ) → k ≡ bitsOf w → r ≡ signExtendOf (32 - (32 - k) % 32) x → r ≡ signExtendOf (bitsOf w) x
+width-extended w x k r e f = f ∙ rw e (ap (λ (n : ℕ). signExtendOf n x) (back w))
+  where
+    back : (w : Width) → 32 - (32 - bitsOf w) % 32 ≡ bitsOf w
+    back Byte = refl
+    back Half = refl
+    back Word = refl

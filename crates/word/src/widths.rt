@@ -4,6 +4,7 @@ use crate::shifts::shl;
 use crate::shifts::shr;
 use crate::shifts::ushr;
 ghost use mathlib.Core.Path.{_≡_};
+ghost use Prim.Native.Nat.{_-_, _%_};
 ghost use Rattle.word.specs.Widths.{bitsOf, bytesOf, truncateOf, zeroExtendOf, signExtendOf};
 
 // The width in bits.
@@ -43,10 +44,16 @@ pub fn zero_extend(w: Width, x: u32) -> u32
     truncate(w, x)
 }
 
+// A signed number in all but the top bits, as many as the low five bits of n say, at 32 bits.
+pub fn extend(n: u32, x: u32) -> u32
+    ensures { λ r. ⌜ r ≡ signExtendOf (32 - n % 32) x ⌝ }
+{
+    shr(shl(x, n), n)
+}
+
 // The low bits of a signed operand, at 32 bits.
 pub fn sign_extend(w: Width, x: u32) -> u32
     ensures { λ r. ⌜ r ≡ signExtendOf (bitsOf w) x ⌝ }
 {
-    let n = 32 - bits(w);
-    shr(shl(x, n), n)
+    extend(32 - bits(w), x)
 }

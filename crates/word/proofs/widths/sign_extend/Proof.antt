@@ -1,4 +1,4 @@
-use Rattle.word.proofs.Exits.{shifts-fit, extended}
+use Rattle.word.proofs.Exits.{shifts-fit, width-extended}
 use borrow.Author.Needs.{needs}
 use Rattle.word.proofs.widths.sign_extend.Statement.{statement}
 use Rattle.word.proofs.widths.sign_extend.Tie as tie
@@ -6,17 +6,14 @@ use Rattle.word.proofs.widths.sign_extend.Tie as tie
 bits-requires : tie.Need-bits-requires
 bits-requires c κs = search needs
 
-sub-n : tie.Need-sub-n
-sub-n c = search (needs, shifts-fit)
+sub-extend : tie.Need-sub-extend
+sub-extend c = search (needs, shifts-fit)
 
-shl-requires : tie.Need-shl-requires
-shl-requires c κs = search needs
-
-shr-requires : tie.Need-shr-requires
-shr-requires c κs = search needs
+extend-requires : tie.Need-extend-requires
+extend-requires c κs = search needs
 
 returns : tie.Need-returns
-returns c = search (needs, extended)
+returns c = search (needs, width-extended)
 
 pub sign-extend-spec : {M : Type 1} → statement M
-sign-extend-spec = tie.close (tie.spec bits-requires sub-n shl-requires shr-requires returns)
+sign-extend-spec = tie.close (tie.spec bits-requires sub-extend extend-requires returns)

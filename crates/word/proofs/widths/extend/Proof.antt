@@ -1,7 +1,7 @@
-use Rattle.decoder.proofs.ShortLaws.{extended-bits}
+use Rattle.word.proofs.Exits.{extended}
 use borrow.Author.Needs.{needs}
-use Rattle.decoder.proofs.fields.extend.Statement.{statement}
-use Rattle.decoder.proofs.fields.extend.Tie as tie
+use Rattle.word.proofs.widths.extend.Statement.{statement}
+use Rattle.word.proofs.widths.extend.Tie as tie
 
 shl-requires : tie.Need-shl-requires
 shl-requires c κs = search needs
@@ -10,7 +10,7 @@ shr-requires : tie.Need-shr-requires
 shr-requires c κs = search needs
 
 returns : tie.Need-returns
-returns c = search (needs, extended-bits)
+returns c = search (needs, extended)
 
 pub extend-spec : {M : Type 1} → statement M
 extend-spec = tie.close (tie.spec shl-requires shr-requires returns)
