@@ -3,7 +3,6 @@
 use mathlib.Core.Path.{_≡_, _∙_}
 use mathlib.Core.Bool.{Bool, _&&_}
 use Prim.Native.Nat.{ℕ, _+_, _*_, _/_, _%_, _<_}
-use lib.Dec.{lit<}
 use Rattle.isa.specs.declared.Operand.{Operand}
 use Rattle.isa.specs.declared.Wide.{Wide}
 use Rattle.isa.specs.declared.Wide.the-variants.{Three, Five}
@@ -18,17 +17,17 @@ use Rattle.isa.specs.declared.Text.{Text}
 use Rattle.isa.specs.declared.Encoded.{Encoded}
 use Rattle.isa.specs.Encodings.{dyadicListed, monadicListed}
 use Rattle.isa.specs.Encode.{coded, text3, text5, withPrefix, operandCode, hasMode, fits, admits, operandRaw, dyadicText, dyadicHasCode, encodeDyadic, monadicCode, takes, encodeMonadic}
-use Rattle.encoder.specs.Parts.{dyadicBare, monadicHasCode, monadicBare}
+use Rattle.encoder.specs.Parts.{dyadicParcels, monadicHasCode, monadicParcels}
 use Rattle.encoder.proofs.Bounds.{opcode-lt, subcode-lt, operand-lt, single-lt}
 
 -- dyadic_text
-module _ (w : Wide) (o s d x y : ℕ) where
+module _ (z : Bool) (w : Wide) (o s d x y : ℕ) where
   pub text-three : (p a b : ℕ) (t : Text) → w ≡ Three → p ≡ 0x8000 + o * 256 + s * 16 + d → a ≡ x % 65536 → b ≡ y % 65536
-      → t ≡ text3 p a b → t ≡ dyadicText w o s d x y
+      → t ≡ withPrefix z (text3 p a b) → t ≡ withPrefix z (dyadicText w o s d x y)
   text-three p a b t e ep ea eb et = rw (e, et, ep, ea, eb)
 
   pub text-five : (p a b f g : ℕ) (t : Text) → w ≡ Five → p ≡ 0xC000 + o * 256 + s * 16 + d → a ≡ x / 65536 → b ≡ x % 65536
-      → f ≡ y / 65536 → g ≡ y % 65536 → t ≡ text5 p a b f g → t ≡ dyadicText w o s d x y
+      → f ≡ y / 65536 → g ≡ y % 65536 → t ≡ withPrefix z (text5 p a b f g) → t ≡ withPrefix z (dyadicText w o s d x y)
   text-five p a b f g t e ep ea eb ef eg et = rw (e, et, ep, ea, eb, ef, eg)
 
 -- dyadic_has_code
@@ -38,39 +37,31 @@ pub code-is : (i : DyadicInstruction) (l : DyadicListed) (a b f g h : Bool) → 
     → (a && b && f && g && h) ≡ dyadicHasCode i
 code-is i l a b f g h el ea eb ef eg eh = cc
 
--- dyadic_bare
+-- dyadic_parcels
 pub opcode-fits : (r : DyadicRow) (l : DyadicListed) → l ≡ dyadicListed r → l .opcode < 64
 opcode-fits r l e = rw e (opcode-lt r)
 
 pub code-fits : (o : Operand) (k : ℕ) → k ≡ operandCode o → k < 16
 code-fits o k e = rw e (operand-lt o)
 
-pub bare-is : (i : DyadicInstruction) (l : DyadicListed) (s d x y : ℕ) (t : Text) → l ≡ dyadicListed (i .row)
+pub parcels-are : (i : DyadicInstruction) (l : DyadicListed) (s d x y : ℕ) (t : Text) → l ≡ dyadicListed (i .row)
     → s ≡ operandCode (i .source) → d ≡ operandCode (i .destination) → x ≡ operandRaw (i .source) → y ≡ operandRaw (i .destination)
-    → t ≡ dyadicText (i .wide) (l .opcode) s d x y → t ≡ dyadicBare i
-unfolding dyadicBare
-bare-is i l s d x y t el es ed ex ey et = cc
+    → t ≡ withPrefix (i .prefix) (dyadicText (i .wide) (l .opcode) s d x y) → t ≡ dyadicParcels i
+unfolding dyadicParcels
+parcels-are i l s d x y t el es ed ex ey et = cc
 
 -- encode_dyadic
-text-short : (w : Wide) (o s d x y : ℕ) → dyadicText w o s d x y .count < 6
-text-short Three o s d x y = lit< tt
-text-short Five o s d x y = lit< tt
-
-pub bare-short : (i : DyadicInstruction) (t : Text) → t ≡ dyadicBare i → t .count < 6
-unfolding dyadicBare
-bare-short i t e = rw e (text-short (i .wide) _ _ _ _ _)
-
-pub dyadic-is : (i : DyadicInstruction) (a : Bool) (t u : Text) (e : Encoded) → a ≡ dyadicHasCode i → t ≡ dyadicBare i
-    → u ≡ withPrefix (i .prefix) t → e ≡ coded a u → e ≡ encodeDyadic i
-unfolding dyadicBare encodeDyadic
-dyadic-is i a t u e ea et eu ee = ee ∙ rw (ea, eu, et)
+pub dyadic-is : (i : DyadicInstruction) (a : Bool) (t : Text) (e : Encoded) → a ≡ dyadicHasCode i → t ≡ dyadicParcels i → e ≡ coded a t
+    → e ≡ encodeDyadic i
+unfolding dyadicParcels encodeDyadic
+dyadic-is i a t e ea et ee = ee ∙ rw (ea, et)
 
 -- monadic_has_code
 pub single-code-is : (i : MonadicInstruction) (l : MonadicListed) (a : Bool) → l ≡ monadicListed (i .row)
     → a ≡ takes (l .operand) (i .mode) (i .value) → a ≡ monadicHasCode i
 single-code-is i l a el ea = cc
 
--- monadic_bare
+-- monadic_parcels
 pub subcode-fits : (r : MonadicRow) (l : MonadicListed) → l ≡ monadicListed r → l .subcode < 16
 subcode-fits r l e = rw e (subcode-lt r)
 
@@ -78,16 +69,13 @@ pub single-fits : (m : MonadicMode) (k : ℕ) → k ≡ monadicCode m → k < 16
 single-fits m k e = rw e (single-lt m)
 
 pub single-is : (i : MonadicInstruction) (l : MonadicListed) (k p a b : ℕ) (t : Text) → l ≡ monadicListed (i .row) → k ≡ monadicCode (i .mode)
-    → p ≡ 0x8000 + k * 16 + l .subcode → a ≡ i .value / 65536 → b ≡ i .value % 65536 → t ≡ text3 p a b → t ≡ monadicBare i
-unfolding monadicBare
+    → p ≡ 0x8000 + k * 16 + l .subcode → a ≡ i .value / 65536 → b ≡ i .value % 65536 → t ≡ withPrefix (i .prefix) (text3 p a b)
+    → t ≡ monadicParcels i
+unfolding monadicParcels
 single-is i l k p a b t el ek ep ea eb et = rw (et, ep, ek, el, ea, eb)
 
 -- encode_monadic
-pub single-short : (i : MonadicInstruction) (t : Text) → t ≡ monadicBare i → t .count < 6
-unfolding monadicBare
-single-short i t e = rw e (lit< tt)
-
-pub monadic-is : (i : MonadicInstruction) (a : Bool) (t u : Text) (e : Encoded) → a ≡ monadicHasCode i → t ≡ monadicBare i
-    → u ≡ withPrefix (i .prefix) t → e ≡ coded a u → e ≡ encodeMonadic i
-unfolding monadicBare encodeMonadic
-monadic-is i a t u e ea et eu ee = ee ∙ rw (ea, eu, et)
+pub monadic-is : (i : MonadicInstruction) (a : Bool) (t : Text) (e : Encoded) → a ≡ monadicHasCode i → t ≡ monadicParcels i → e ≡ coded a t
+    → e ≡ encodeMonadic i
+unfolding monadicParcels encodeMonadic
+monadic-is i a t e ea et ee = ee ∙ rw (ea, et)

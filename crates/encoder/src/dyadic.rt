@@ -5,7 +5,6 @@ use crate::operands::operand_raw;
 use crate::text::answer;
 use crate::text::five_parcels;
 use crate::text::three_parcels;
-use crate::text::with_prefix;
 use bits::high_half;
 use bits::low_half;
 use encodings::modes::has_mode;
@@ -17,8 +16,8 @@ use isa::Text;
 use isa::Wide;
 ghost use mathlib.Core.Path.{_≡_};
 ghost use Prim.Native.Nat.{_+_, _*_, _<_};
-ghost use Rattle.isa.specs.Encode.{dyadicText, dyadicHasCode, encodeDyadic};
-ghost use Rattle.encoder.specs.Parts.{dyadicBare};
+ghost use Rattle.isa.specs.Encode.{withPrefix, dyadicText, dyadicHasCode, encodeDyadic};
+ghost use Rattle.encoder.specs.Parts.{dyadicParcels};
 
 // The first parcel of a form: its top two bits, the opcode and the two modes.
 fn first_parcel(form: u32, o: u32, s: u32, d: u32) -> u16
@@ -28,13 +27,19 @@ fn first_parcel(form: u32, o: u32, s: u32, d: u32) -> u16
     (form + o * 256 + s * 16 + d) as u16
 }
 
-fn dyadic_text(w: Wide, o: u32, s: u32, d: u32, x: u32, y: u32) -> Text
+fn dyadic_text(prefix: bool, w: Wide, o: u32, s: u32, d: u32, x: u32, y: u32) -> Text
     requires { ⌜ (o < 64) × (s < 16) × (d < 16) ⌝ }
-    ensures { λ r. ⌜ r ≡ dyadicText w o s d x y ⌝ }
+    ensures { λ r. ⌜ r ≡ withPrefix prefix (dyadicText w o s d x y) ⌝ }
 {
     match w {
-        Wide::Three => three_parcels(first_parcel(0x8000, o, s, d), low_half(x), low_half(y)),
+        Wide::Three => three_parcels(
+            prefix,
+            first_parcel(0x8000, o, s, d),
+            low_half(x),
+            low_half(y),
+        ),
         Wide::Five => five_parcels(
+            prefix,
             first_parcel(0xC000, o, s, d),
             high_half(x),
             low_half(x),
@@ -61,9 +66,9 @@ fn dyadic_has_code(i: DyadicInstruction) -> bool
         & admits_both(o, s, d)
 }
 
-// The parcels of an instruction that has a code, without its prefix.
-fn dyadic_bare(i: DyadicInstruction) -> Text
-    ensures { λ r. ⌜ r ≡ dyadicBare i ⌝ }
+// The parcels of an instruction that has a code.
+fn dyadic_parcels(i: DyadicInstruction) -> Text
+    ensures { λ r. ⌜ r ≡ dyadicParcels i ⌝ }
 {
     let row = i.row;
     let w = i.wide;
@@ -71,6 +76,7 @@ fn dyadic_bare(i: DyadicInstruction) -> Text
     let d = i.destination;
     let l = list_dyadic(row);
     dyadic_text(
+        i.prefix,
         w,
         l.opcode,
         operand_code(s),
@@ -83,5 +89,5 @@ fn dyadic_bare(i: DyadicInstruction) -> Text
 pub fn encode_dyadic(i: DyadicInstruction) -> Encoded
     ensures { λ r. ⌜ r ≡ encodeDyadic i ⌝ }
 {
-    answer(dyadic_has_code(i), with_prefix(i.prefix, dyadic_bare(i)))
+    answer(dyadic_has_code(i), dyadic_parcels(i))
 }

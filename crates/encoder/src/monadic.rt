@@ -1,7 +1,6 @@
 // Instructions of three parcels with one operand.
 use crate::text::answer;
 use crate::text::three_parcels;
-use crate::text::with_prefix;
 use bits::high_half;
 use bits::low_half;
 use encodings::modes::monadic_code;
@@ -14,7 +13,7 @@ use isa::Text;
 ghost use mathlib.Core.Path.{_≡_};
 ghost use Prim.Native.Nat.{_+_, _*_, _<_};
 ghost use Rattle.isa.specs.Encode.{flowMode, takes, encodeMonadic};
-ghost use Rattle.encoder.specs.Parts.{monadicBare, monadicHasCode};
+ghost use Rattle.encoder.specs.Parts.{monadicParcels, monadicHasCode};
 
 // Whether a mode is one of CALL's and JMP's.
 fn is_flow(m: MonadicMode) -> bool
@@ -53,14 +52,15 @@ fn first_parcel(k: u32, j: u32) -> u16
     (0x8000 + k * 16 + j) as u16
 }
 
-// The parcels of an instruction that has a code, without its prefix.
-fn monadic_bare(i: MonadicInstruction) -> Text
-    ensures { λ r. ⌜ r ≡ monadicBare i ⌝ }
+// The parcels of an instruction that has a code.
+fn monadic_parcels(i: MonadicInstruction) -> Text
+    ensures { λ r. ⌜ r ≡ monadicParcels i ⌝ }
 {
     let row = i.row;
     let m = i.mode;
     let l = list_monadic(row);
     three_parcels(
+        i.prefix,
         first_parcel(monadic_code(m), l.subcode),
         high_half(i.value),
         low_half(i.value),
@@ -80,5 +80,5 @@ fn monadic_has_code(i: MonadicInstruction) -> bool
 pub fn encode_monadic(i: MonadicInstruction) -> Encoded
     ensures { λ r. ⌜ r ≡ encodeMonadic i ⌝ }
 {
-    answer(monadic_has_code(i), with_prefix(i.prefix, monadic_bare(i)))
+    answer(monadic_has_code(i), monadic_parcels(i))
 }

@@ -1,4 +1,4 @@
-use Rattle.encoder.proofs.WideExits.{bare-short, dyadic-is}
+use Rattle.encoder.proofs.WideExits.{dyadic-is}
 use borrow.Author.Needs.{needs}
 use Rattle.encoder.proofs.dyadic.encode_dyadic.Statement.{statement}
 use Rattle.encoder.proofs.dyadic.encode_dyadic.Tie as tie
@@ -6,11 +6,8 @@ use Rattle.encoder.proofs.dyadic.encode_dyadic.Tie as tie
 dyadic-has-code-requires : tie.Need-dyadic-has-code-requires
 dyadic-has-code-requires c κs = search needs
 
-dyadic-bare-requires : tie.Need-dyadic-bare-requires
-dyadic-bare-requires c κs = search needs
-
-with-prefix-requires : tie.Need-with-prefix-requires
-with-prefix-requires c κs = search (needs, bare-short)
+dyadic-parcels-requires : tie.Need-dyadic-parcels-requires
+dyadic-parcels-requires c κs = search needs
 
 answer-requires : tie.Need-answer-requires
 answer-requires c κs = search needs
@@ -23,7 +20,6 @@ encode-dyadic-spec =
     tie.close
     (tie.spec
     dyadic-has-code-requires
-    dyadic-bare-requires
-    with-prefix-requires
+    dyadic-parcels-requires
     answer-requires
     returns)

@@ -1,4 +1,4 @@
-use Rattle.encoder.proofs.WideExits.{single-short, monadic-is}
+use Rattle.encoder.proofs.WideExits.{monadic-is}
 use borrow.Author.Needs.{needs}
 use Rattle.encoder.proofs.monadic.encode_monadic.Statement.{statement}
 use Rattle.encoder.proofs.monadic.encode_monadic.Tie as tie
@@ -6,11 +6,8 @@ use Rattle.encoder.proofs.monadic.encode_monadic.Tie as tie
 monadic-has-code-requires : tie.Need-monadic-has-code-requires
 monadic-has-code-requires c κs = search needs
 
-monadic-bare-requires : tie.Need-monadic-bare-requires
-monadic-bare-requires c κs = search needs
-
-with-prefix-requires : tie.Need-with-prefix-requires
-with-prefix-requires c κs = search (needs, single-short)
+monadic-parcels-requires : tie.Need-monadic-parcels-requires
+monadic-parcels-requires c κs = search needs
 
 answer-requires : tie.Need-answer-requires
 answer-requires c κs = search needs
@@ -23,7 +20,6 @@ encode-monadic-spec =
     tie.close
     (tie.spec
     monadic-has-code-requires
-    monadic-bare-requires
-    with-prefix-requires
+    monadic-parcels-requires
     answer-requires
     returns)

@@ -1,7 +1,7 @@
 use Rattle.encoder.proofs.WideExits.{subcode-fits, single-fits, single-is}
 use borrow.Author.Needs.{needs}
-use Rattle.encoder.proofs.monadic.monadic_bare.Statement.{statement}
-use Rattle.encoder.proofs.monadic.monadic_bare.Tie as tie
+use Rattle.encoder.proofs.monadic.monadic_parcels.Statement.{statement}
+use Rattle.encoder.proofs.monadic.monadic_parcels.Tie as tie
 
 list-monadic-requires : tie.Need-list-monadic-requires
 list-monadic-requires c κs = search needs
@@ -24,8 +24,8 @@ three-parcels-requires c κs = search needs
 returns : tie.Need-returns
 returns c = search (needs, single-is)
 
-pub monadic-bare-spec : {M : Type 1} → statement M
-monadic-bare-spec =
+pub monadic-parcels-spec : {M : Type 1} → statement M
+monadic-parcels-spec =
     tie.close
     (tie.spec
     list-monadic-requires

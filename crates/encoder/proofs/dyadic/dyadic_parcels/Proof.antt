@@ -1,7 +1,7 @@
-use Rattle.encoder.proofs.WideExits.{opcode-fits, code-fits, bare-is}
+use Rattle.encoder.proofs.WideExits.{opcode-fits, code-fits, parcels-are}
 use borrow.Author.Needs.{needs}
-use Rattle.encoder.proofs.dyadic.dyadic_bare.Statement.{statement}
-use Rattle.encoder.proofs.dyadic.dyadic_bare.Tie as tie
+use Rattle.encoder.proofs.dyadic.dyadic_parcels.Statement.{statement}
+use Rattle.encoder.proofs.dyadic.dyadic_parcels.Tie as tie
 
 list-dyadic-requires : tie.Need-list-dyadic-requires
 list-dyadic-requires c κs = search needs
@@ -22,10 +22,10 @@ dyadic-text-requires : tie.Need-dyadic-text-requires
 dyadic-text-requires c κs = search (needs, opcode-fits, code-fits)
 
 returns : tie.Need-returns
-returns c = search (needs, bare-is)
+returns c = search (needs, parcels-are)
 
-pub dyadic-bare-spec : {M : Type 1} → statement M
-dyadic-bare-spec =
+pub dyadic-parcels-spec : {M : Type 1} → statement M
+dyadic-parcels-spec =
     tie.close
     (tie.spec
     list-dyadic-requires
