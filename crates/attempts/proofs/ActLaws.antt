@@ -1,0 +1,162 @@
+-- The ways out of what the decoder answered.
+-- Assumes nothing.
+use Prim.Native.Nat.{ℕ, _%_, _^_, _<_, _≤_}
+use mathlib.Core.Path.{_≡_, refl, sym, ap, _∙_}
+use mathlib.Core.Bool.{Bool, true, false, cond, _&&_}
+use native.Mathlib.Omega.{arith}
+use borrow.Author.Tests.{lt-ltb, ne-eqb}
+use Rattle.isa.specs.declared.MonadicMode.{MonadicMode}
+use Rattle.isa.specs.declared.Instruction.{Instruction}
+use Rattle.isa.specs.declared.Instruction.the-variants as instruction
+use Rattle.isa.specs.declared.ShortInstruction.{ShortInstruction}
+use Rattle.isa.specs.declared.DyadicInstruction.{DyadicInstruction}
+use Rattle.isa.specs.declared.MonadicInstruction.{MonadicInstruction}
+use Rattle.isa.specs.declared.Answer.{Answer}
+use Rattle.laws.proofs.Cases.{and-left, and-right}
+use Rattle.memory.specs.Answers.{got, bad, answerOf}
+use Rattle.memory.proofs.AnswerLaws.{answer-high, answer-got}
+use Rattle.program.specs.Access.{Gave, gave}
+use Rattle.program.specs.Program.{Program, ret, interpret}
+use Rattle.program.specs.Journal.{Journaled, logging}
+use Rattle.machine.specs.Registers.{Bank}
+use Rattle.machine.specs.Cache.{Cache}
+use Rattle.machine.specs.Status.{Cpu, cpu}
+use Rattle.access.specs.Parts.{Out, ok, stop, onward, done, _>>=_}
+use Rattle.access.specs.Code.{ended}
+use Rattle.access.proofs.Bind.{bind}
+use Rattle.exec.specs.declared.Monadic.{Monadic}
+use Rattle.exec.specs.Frames.{unimplementedSequence}
+use Rattle.exec.specs.Execute.{Normal, oneOperand, shortNormal, monadicOf, normal, Traced, traced, execute}
+use Rattle.rows.specs.declared.ShortForm.{ShortForm}
+use Rattle.rows.specs.declared.ShortForm.the-variants.{One}
+use Rattle.rows.specs.Rows.{formed, tracedFrom}
+use Rattle.step.specs.Step.{Met, meets, vectored, Acted, finished, sequenced, act}
+use Rattle.run.specs.Run.{Tried, tried, fetched, isKcall, tryActed, kcallCode, unimplementedCode}
+use Rattle.attempts.specs.Code.{actOf, triedOut}
+
+-- ---- a part whose value is only renamed
+
+abbrev pub mapped : {A B : Type 0} → (A → B) → Out A → Out B
+mapped f (ok a) = ok (f a)
+mapped f (stop e c) = stop e c
+
+pub renamed : {A B : Type 0} (p : Program (Out A)) (f : A → B) (t : Journaled)
+    → interpret logging (p >>= (λ a. done (f a))) t ≡ gave (mapped f (interpret logging p t .out)) (interpret logging p t .world)
+unfolding onward interpret
+renamed {A = A} {B = B} p f t = bind p (λ a. done (f a)) t ∙ go (interpret logging p t .out) (interpret logging p t .world)
+  where
+    go : (o : Out A) (u : Journaled) → interpret logging (onward (λ a. done (f a)) o) u ≡ gave (mapped f o) u
+    go (ok a) u = refl
+    go (stop e c) u = refl
+
+pub renamed-twice : {A B C : Type 0} (p : Program (Out A)) (f : A → B) (g : B → C) (t : Journaled)
+    → interpret logging (p >>= (λ a. done (f a)) >>= (λ b. done (g b))) t ≡ gave (mapped (λ a. g (f a)) (interpret logging p t .out)) (interpret logging p t .world)
+renamed-twice {A = A} {B = B} {C = C} p f g t =
+    renamed (p >>= (λ a. done (f a))) g t
+    ∙ ap (λ (x : Gave Journaled (Out B)). gave (mapped g (x .out)) (x .world)) (renamed p f t)
+    ∙ go (interpret logging p t .out) (interpret logging p t .world)
+  where
+    go : (o : Out A) (u : Journaled) → gave (mapped g (mapped f o)) u ≡ gave (mapped (λ a. g (f a)) o) u
+    go (ok a) u = refl
+    go (stop e c) u = refl
+
+-- ---- an instruction
+
+-- whether it is a KCALL
+pub kcall-form : (f : ShortForm) (o : Monadic) (k : MonadicMode) (z : Bool) → f ≡ One o k → ((l : MonadicMode) (v : ℕ) → z ≡ isKcall (oneOperand o l v))
+    → (s d : ℕ) → z ≡ isKcall (formed f s d)
+kcall-form f o k z h e s d = rw h (e k s)
+
+pub kcall-short : (i : Instruction) (j : ShortInstruction) (z : Bool) (f : ShortForm) → i ≡ instruction.Short j → formed f ≡ shortNormal (j .row)
+    → ((s d : ℕ) → z ≡ isKcall (formed f s d)) → z ≡ isKcall (normal i)
+kcall-short i j z f h e k =
+    k (j .source) (j .destination) ∙ ap (λ (l : ℕ → ℕ → Normal). isKcall (l (j .source) (j .destination))) e ∙ ap (λ (l : Instruction). isKcall (normal l)) (sym h)
+
+pub kcall-dyadic : (i : Instruction) (j : DyadicInstruction) → i ≡ instruction.Dyadic j → false ≡ isKcall (normal i)
+kcall-dyadic i j h = rw h
+
+pub kcall-monadic : (i : Instruction) (j : MonadicInstruction) (z : Bool) (o : Monadic) → i ≡ instruction.Monadic j → o ≡ monadicOf (j .row)
+    → ((k : MonadicMode) (v : ℕ) → z ≡ isKcall (oneOperand o k v)) → z ≡ isKcall (normal i)
+kcall-monadic i j z o h e k = k (j .mode) (j .value) ∙ rw (h, e)
+
+-- what tracing makes of it, as a number below 3
+pub classed-low : (k : ℕ) (c : Traced) → tracedFrom k ≡ c → k < 2 → (tracedFrom k ≡ c) × (k < 3)
+classed-low k c e h = (e, omega arith)
+
+pub classed-high : (k : ℕ) (c : Traced) → tracedFrom k ≡ c → 2 ≤ k → (tracedFrom 2 ≡ c) × (2 < 3)
+classed-high k c e h = (sym (simp (ne-eqb k 0 (λ f. omega arith), ne-eqb k 1 (λ f. omega arith))) ∙ e, omega arith)
+
+-- a finished instruction's answer
+pub answers-class : (v : ℕ) (c : Traced) (b : Bank) (q : Cache) → tracedFrom v ≡ c → v < 3 → triedOut (answerOf v) b q ≡ ok (tried (finished c (cpu b q)))
+answers-class v c b q e h =
+    let l : v < 2 ^ 32 = omega arith in
+    let k : v < 4 = omega arith in
+    simp (answer-got v l, lt-ltb v 4 k, lt-ltb v 3 h, e)
+
+pub answers-stop : (x : ℕ) (b : Bank) (q : Cache) → 2 ^ 32 ≤ x → triedOut (answerOf x) b q ≡ stop (x % 2 ^ 32) (cpu b q)
+answers-stop x b q h = rw (answer-high x h) refl
+
+module _ (confined : Bool) (c : Cpu) (i : Instruction) (k z : Bool) (ek : k ≡ isKcall (normal i)) (ez : z ≡ (confined && k)) (t : Journaled) where
+  abbrev done-as : Cpu → Tried
+  done-as d = tried (finished (traced (normal i)) d)
+
+  pub kcall-stops : (b : Bank) (q : Cache) → z ≡ true → gave (triedOut (answerOf 0x20) b q) t ≡ interpret logging (actOf confined c (meets i)) t
+  unfolding actOf tryActed interpret
+  kcall-stops b q h =
+      let l : confined ≡ true = and-left confined k (sym ez ∙ h) in
+      let o : isKcall (normal i) ≡ true = sym ek ∙ and-right confined k (sym ez ∙ h) in
+      rw (answer-got 0x20 (omega arith), l, o) refl
+
+  -- else it is executed
+  meets-acted : z ≡ false → interpret logging (actOf confined c (meets i)) t ≡ gave (mapped done-as (interpret logging (execute c i) t .out)) (interpret logging (execute c i) t .world)
+  unfolding actOf tryActed act
+  meets-acted h = go confined k ek (sym ez ∙ h)
+    where
+      go : (f l : Bool) → l ≡ isKcall (normal i) → (f && l) ≡ false
+          → interpret logging (actOf f c (meets i)) t ≡ gave (mapped done-as (interpret logging (execute c i) t .out)) (interpret logging (execute c i) t .world)
+      go true l el e = rw (sym el ∙ e) (renamed (execute c i) done-as t)
+      go false l el e = renamed-twice (execute c i) (λ d. finished (traced (normal i)) d) (λ a. tried a) t
+
+  module _ (x : ℕ) (b : Bank) (q : Cache) (u : Journaled) (e : gave (ended (answerOf x) b q) u ≡ interpret logging (execute c i) t) (h : z ≡ false) where
+    mapped-out : gave (mapped done-as (ended (answerOf x) b q)) u ≡ interpret logging (actOf confined c (meets i)) t
+    mapped-out = ap (λ (g : Gave Journaled (Out Cpu)). gave (mapped done-as (g .out)) (g .world)) e ∙ sym (meets-acted h)
+
+    pub instruction-stops : 2 ^ 32 ≤ x → gave (triedOut (answerOf x) b q) u ≡ interpret logging (actOf confined c (meets i)) t
+    instruction-stops l = same ∙ mapped-out
+      where
+        same : gave (triedOut (answerOf x) b q) u ≡ gave (mapped done-as (ended (answerOf x) b q)) u
+        same = rw (answer-high x l) refl
+
+    pub instruction-ends : x < 2 ^ 32 → (v : ℕ) → tracedFrom v ≡ traced (normal i) → v < 3 → gave (triedOut (answerOf v) b q) u ≡ interpret logging (actOf confined c (meets i)) t
+    unfolding answerOf
+    instruction-ends l v ev lv = ap (λ (o : Out Tried). gave o u) (answers-class v (traced (normal i)) b q ev lv) ∙ same ∙ mapped-out
+      where
+        same : gave (ok (done-as (cpu b q))) u ≡ gave (mapped done-as (ended (answerOf x) b q)) u
+        same = simp (lt-ltb x (2 ^ 32) l)
+
+-- ---- an unimplemented instruction or a trap
+
+module _ (confined : Bool) (c : Cpu) (v : ℕ) (t : Journaled) where
+  pub unimplemented-stops : (b : Bank) (q : Cache) → confined ≡ true → gave (triedOut (answerOf 0x21) b q) t ≡ interpret logging (actOf confined c (vectored v)) t
+  unfolding actOf tryActed interpret
+  unimplemented-stops b q h = rw (answer-got 0x21 (omega arith), h) refl
+
+  module _ (x : ℕ) (b : Bank) (q : Cache) (u : Journaled) (e : gave (ended (answerOf x) b q) u ≡ interpret logging (unimplementedSequence c v) t) (h : confined ≡ false) where
+    sequenced-out : gave (mapped (λ d. tried (sequenced d)) (ended (answerOf x) b q)) u ≡ interpret logging (actOf confined c (vectored v)) t
+    unfolding actOf act
+    sequenced-out =
+        ap (λ (g : Gave Journaled (Out Cpu)). gave (mapped (λ d. tried (sequenced d)) (g .out)) (g .world)) e
+        ∙ sym (rw h (renamed-twice (unimplementedSequence c v) (λ d. sequenced d) (λ a. tried a) t))
+
+    pub sequence-stops : 2 ^ 32 ≤ x → gave (triedOut (answerOf x) b q) u ≡ interpret logging (actOf confined c (vectored v)) t
+    sequence-stops l = same ∙ sequenced-out
+      where
+        same : gave (triedOut (answerOf x) b q) u ≡ gave (mapped (λ d. tried (sequenced d)) (ended (answerOf x) b q)) u
+        same = rw (answer-high x l) refl
+
+    pub sequence-ends : x < 2 ^ 32 → gave (triedOut (answerOf 3) b q) u ≡ interpret logging (actOf confined c (vectored v)) t
+    unfolding answerOf
+    sequence-ends l = same ∙ sequenced-out
+      where
+        same : gave (triedOut (answerOf 3) b q) u ≡ gave (mapped (λ d. tried (sequenced d)) (ended (answerOf x) b q)) u
+        same = simp (lt-ltb x (2 ^ 32) l)

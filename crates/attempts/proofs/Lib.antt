@@ -1,0 +1,3 @@
+pub mod ExecuteLaws
+pub mod ActLaws
+pub mod AttemptLaws

@@ -1,0 +1,165 @@
+// Fetch, decoding and execution, of both kinds of run.
+use crate::execute::execute;
+use access::text::fetch_text;
+use decoder::decode_text;
+use exec::Monadic;
+use frames::sequences::unimplemented_sequence;
+use isa::Answer;
+use isa::Instruction;
+use memory::answers::low32;
+use memory::answers::raised;
+use rows::ShortForm;
+use rows::forms::monadic_of;
+use rows::forms::short_form;
+use rows::tracing::traced;
+ghost use mathlib.Core.Path.{_≡_};
+ghost use Prim.Native.Nat.{ℕ, _<_};
+ghost use Rattle.isa.specs.declared.MonadicMode.{MonadicMode};
+ghost use Rattle.memory.specs.Answers.{answerOf};
+ghost use Rattle.program.specs.Access.{gave};
+ghost use Rattle.program.specs.Program.{interpret};
+ghost use Rattle.program.specs.Journal.{journaled, logging};
+ghost use Rattle.machine.specs.Status.{cpu};
+ghost use Rattle.access.specs.Parts.{onward};
+ghost use Rattle.rows.specs.Rows.{formed, tracedFrom};
+ghost use Rattle.exec.specs.Execute.{oneOperand, normal, traced as tracedOf};
+ghost use Rattle.step.specs.Step.{meets, vectored, met};
+ghost use Rattle.run.specs.Run.{isKcall};
+ghost use Rattle.attempts.specs.Code.{actOf, attemptOf, triedOut};
+
+fn kcalls(o: Monadic) -> bool
+    ensures { λ x. ⌜ ((k : MonadicMode) (v : ℕ) → x ≡ isKcall (oneOperand o k v)) ⌝ }
+{
+    match o {
+        Monadic::Kcall => true,
+        Monadic::Call => false,
+        Monadic::Return => false,
+        Monadic::Jmp => false,
+        Monadic::JmpFalse => false,
+        Monadic::JmpTrue => false,
+        Monadic::Catch => false,
+        Monadic::Enter => false,
+        Monadic::Ldraa => false,
+        Monadic::Flush => false,
+        Monadic::Popn => false,
+    }
+}
+
+fn form_kcalls(form: ShortForm) -> bool
+    ensures { λ x. ⌜ ((s d : ℕ) → x ≡ isKcall (formed form s d)) ⌝ }
+{
+    match form {
+        ShortForm::Two(_, _, _) => false,
+        ShortForm::One(o, _) => kcalls(o),
+        ShortForm::Zero(_) => false,
+    }
+}
+
+fn is_kcall(i: Instruction) -> bool
+    ensures { λ x. ⌜ x ≡ isKcall (normal i) ⌝ }
+{
+    match i {
+        Instruction::Short(j) => {
+            let row = j.row;
+            form_kcalls(short_form(row))
+        }
+        Instruction::Dyadic(_) => false,
+        Instruction::Monadic(j) => {
+            let row = j.row;
+            kcalls(monadic_of(row))
+        }
+    }
+}
+
+// What tracing makes of an instruction, as a number below 3.
+fn class_of(i: Instruction) -> u64
+    ensures { λ x. ⌜ (tracedFrom x ≡ tracedOf (normal i)) × (x < 3) ⌝ }
+{
+    let k = traced(i);
+    if k < 2 { k as u64 } else { 2 }
+}
+
+// An instruction executed, with what tracing makes of it.
+fn act_on(
+    m: &mut [u8],
+    places: &mut [u32; 201],
+    words: &mut [[u8; 4]; 200],
+    q: &mut [[u32; 4]; 16],
+    r: &mut [u32; 17],
+    confined: bool,
+    i: Instruction,
+) -> u64
+    ensures { λ x. ⌜ gave (triedOut (answerOf x) (now (r .exit)) (now (q .exit))) (journaled (now (m .exit)) (now (places .exit)) (now (words .exit))) ≡ interpret logging (actOf confined (cpu (now (r .entry)) (now (q .entry))) (meets i)) (journaled (now (m .entry)) (now (places .entry)) (now (words .entry))) ⌝ }
+{
+    let class = class_of(i);
+    let stops = confined & is_kcall(i);
+    if stops {
+        return 0x20;
+    }
+    let x = execute(m, places, words, q, r, i);
+    if 0x1_0000_0000 <= x {
+        return x;
+    }
+    class
+}
+
+// An unimplemented instruction or a trap, by its vector.
+fn act_unimplemented(
+    m: &mut [u8],
+    places: &mut [u32; 201],
+    words: &mut [[u8; 4]; 200],
+    q: &mut [[u32; 4]; 16],
+    r: &mut [u32; 17],
+    confined: bool,
+    vector: u32,
+) -> u64
+    ensures { λ x. ⌜ gave (triedOut (answerOf x) (now (r .exit)) (now (q .exit))) (journaled (now (m .exit)) (now (places .exit)) (now (words .exit))) ≡ interpret logging (actOf confined (cpu (now (r .entry)) (now (q .entry))) (vectored vector)) (journaled (now (m .entry)) (now (places .entry)) (now (words .entry))) ⌝ }
+{
+    if confined {
+        return 0x21;
+    }
+    let x = unimplemented_sequence(m, places, words, q, r, vector);
+    if 0x1_0000_0000 <= x {
+        return x;
+    }
+    3
+}
+
+// What the decoder answered.
+fn act_on_answer(
+    m: &mut [u8],
+    places: &mut [u32; 201],
+    words: &mut [[u8; 4]; 200],
+    q: &mut [[u32; 4]; 16],
+    r: &mut [u32; 17],
+    confined: bool,
+    a: Answer,
+) -> u64
+    ensures { λ x. ⌜ gave (triedOut (answerOf x) (now (r .exit)) (now (q .exit))) (journaled (now (m .exit)) (now (places .exit)) (now (words .exit))) ≡ interpret logging (onward (actOf confined (cpu (now (r .entry)) (now (q .entry)))) (met (cpu (now (r .entry)) (now (q .entry))) a)) (journaled (now (m .entry)) (now (places .entry)) (now (words .entry))) ⌝ }
+{
+    match a {
+        Answer::Is(i) => act_on(m, places, words, q, r, confined, i),
+        Answer::Illegal => raised(3),
+        Answer::Unimplemented => act_unimplemented(m, places, words, q, r, confined, 12),
+        Answer::Trap => act_unimplemented(m, places, words, q, r, confined, 8),
+        Answer::Refused(_) => raised(3),
+    }
+}
+
+// The instruction at PC; a confined run stops at a KCALL or an unimplemented instruction that has only been fetched.
+pub fn attempt(
+    m: &mut [u8],
+    places: &mut [u32; 201],
+    words: &mut [[u8; 4]; 200],
+    q: &mut [[u32; 4]; 16],
+    r: &mut [u32; 17],
+    confined: bool,
+) -> u64
+    ensures { λ x. ⌜ gave (triedOut (answerOf x) (now (r .exit)) (now (q .exit))) (journaled (now (m .exit)) (now (places .exit)) (now (words .exit))) ≡ interpret logging (attemptOf confined (cpu (now (r .entry)) (now (q .entry)))) (journaled (now (m .entry)) (now (places .entry)) (now (words .entry))) ⌝ }
+{
+    let f = fetch_text(m, places, words, q, r);
+    if f.fault != 0 {
+        return raised(low32(f.fault));
+    }
+    act_on_answer(m, places, words, q, r, confined, decode_text(f.text))
+}

@@ -1,0 +1,3 @@
+// An attempt at the instruction at PC: fetched, decoded and executed.
+pub mod attempt;
+pub mod execute;

@@ -1,0 +1,68 @@
+// The sequence of an exception, and of what a look found due.
+use bank::events::taken;
+use bank::events::vector_of;
+use bank::frames::reset;
+use frames::sequences::exception_sequence;
+use frames::sequences::interrupt_sequence;
+ghost use mathlib.Core.Path.{_≡_};
+ghost use mathlib.Core.Bool.{false};
+ghost use Prim.Native.Nat.{_%_};
+ghost use Rattle.memory.specs.Answers.{answerOf};
+ghost use Rattle.program.specs.Access.{gave};
+ghost use Rattle.program.specs.Program.{interpret};
+ghost use Rattle.program.specs.Journal.{journaled, logging};
+ghost use Rattle.machine.specs.Cache.{Cache};
+ghost use Rattle.machine.specs.Status.{cpu};
+ghost use Rattle.access.specs.Code.{ended};
+ghost use Rattle.bank.specs.Dues.{dueFrom};
+ghost use Rattle.step.specs.Step.{stepped, settled, eventStep, exceptionStep};
+
+// A sequence that met a fault on its stack or vector resets.
+fn settle(r: &mut [u32; 17], x: u64)
+    ensures { λ z. ⌜ ((q : Cache) → cpu (now (r .exit)) q ≡ settled (ended (answerOf x) (now (r .entry)) q)) ⌝ }
+{
+    if 0x1_0000_0000 <= x {
+        reset(r);
+    }
+}
+
+// Exception e; 0 is the reset that a fault on the interrupt stack asks for.
+pub fn exception_step(
+    m: &mut [u8],
+    places: &mut [u32; 201],
+    words: &mut [[u8; 4]; 200],
+    q: &[[u32; 4]; 16],
+    r: &mut [u32; 17],
+    e: u32,
+)
+    ensures { λ z. ⌜ gave (stepped (cpu (now (r .exit)) (now (q .entry))) false) (journaled (now (m .exit)) (now (places .exit)) (now (words .exit))) ≡ interpret logging (exceptionStep (cpu (now (r .entry)) (now (q .entry))) e) (journaled (now (m .entry)) (now (places .entry)) (now (words .entry))) ⌝ }
+{
+    if e == 0 {
+        reset(r);
+        return;
+    }
+    let x = exception_sequence(m, places, words, q, r, e);
+    settle(r, x);
+}
+
+// What is due, by document 01's number; only its low five bits are used.
+pub fn event_step(
+    m: &mut [u8],
+    places: &mut [u32; 201],
+    words: &mut [[u8; 4]; 200],
+    q: &[[u32; 4]; 16],
+    r: &mut [u32; 17],
+    code: u32,
+)
+    ensures { λ z. ⌜ gave (stepped (cpu (now (r .exit)) (now (q .entry))) false) (journaled (now (m .exit)) (now (places .exit)) (now (words .exit))) ≡ interpret logging (eventStep (cpu (now (r .entry)) (now (q .entry))) (dueFrom (code % 32))) (journaled (now (m .entry)) (now (places .entry)) (now (words .entry))) ⌝ }
+{
+    let k = code % 32;
+    taken(r, k);
+    if k == 2 {
+        let x = exception_sequence(m, places, words, q, r, 2);
+        settle(r, x);
+        return;
+    }
+    let y = interrupt_sequence(m, places, words, q, r, vector_of(code));
+    settle(r, y);
+}

@@ -1,0 +1,78 @@
+// The step, by value of what it leaves: whether an instruction completed.
+use crate::events::event_step;
+use crate::events::exception_step;
+use attempts::attempt::attempt;
+use bank::events::due_code;
+use bank::events::looked;
+use bank::events::trace_falls;
+use bits::bit;
+use memory::answers::low32;
+use rows::tracing::traces_at;
+ghost use mathlib.Core.Path.{_≡_};
+ghost use Rattle.memory.specs.Answers.{answerOf};
+ghost use Rattle.program.specs.Access.{gave};
+ghost use Rattle.program.specs.Program.{interpret};
+ghost use Rattle.program.specs.Journal.{journaled, logging};
+ghost use Rattle.machine.specs.Status.{cpu};
+ghost use Rattle.attempts.specs.Code.{actedOut};
+ghost use Rattle.step.specs.Step.{stepped, finish as finishOf, instructionStep, step as stepOf};
+
+// After an attempt that began with the PSW p: a trace falls due, or the exception is taken.
+fn finish(
+    m: &mut [u8],
+    places: &mut [u32; 201],
+    words: &mut [[u8; 4]; 200],
+    q: &[[u32; 4]; 16],
+    r: &mut [u32; 17],
+    p: u32,
+    x: u64,
+) -> bool
+    ensures { λ z. ⌜ gave (stepped (cpu (now (r .exit)) (now (q .entry))) z) (journaled (now (m .exit)) (now (places .exit)) (now (words .exit))) ≡ interpret logging (finishOf p (actedOut (answerOf x) (now (r .entry)) (now (q .entry)))) (journaled (now (m .entry)) (now (places .entry)) (now (words .entry))) ⌝ }
+{
+    if 0x1_0000_0000 <= x {
+        exception_step(m, places, words, q, r, low32(x));
+        return false;
+    }
+    if x < 3 {
+        trace_falls(r, traces_at(p, low32(x)));
+        return true;
+    }
+    trace_falls(r, bit(p, 7));
+    false
+}
+
+// The instruction at PC.
+fn instruction_step(
+    m: &mut [u8],
+    places: &mut [u32; 201],
+    words: &mut [[u8; 4]; 200],
+    q: &mut [[u32; 4]; 16],
+    r: &mut [u32; 17],
+) -> bool
+    ensures { λ z. ⌜ gave (stepped (cpu (now (r .exit)) (now (q .exit))) z) (journaled (now (m .exit)) (now (places .exit)) (now (words .exit))) ≡ interpret logging (instructionStep (cpu (now (r .entry)) (now (q .entry)))) (journaled (now (m .entry)) (now (places .entry)) (now (words .entry))) ⌝ }
+{
+    let p = r[6];
+    let x = attempt(m, places, words, q, r, false);
+    finish(m, places, words, q, r, p, x)
+}
+
+// One step with the interrupt input at a level.
+pub fn step(
+    m: &mut [u8],
+    places: &mut [u32; 201],
+    words: &mut [[u8; 4]; 200],
+    q: &mut [[u32; 4]; 16],
+    r: &mut [u32; 17],
+    level: u32,
+) -> bool
+    ensures { λ z. ⌜ gave (stepped (cpu (now (r .exit)) (now (q .exit))) z) (journaled (now (m .exit)) (now (places .exit)) (now (words .exit))) ≡ interpret logging (stepOf level (cpu (now (r .entry)) (now (q .entry)))) (journaled (now (m .entry)) (now (places .entry)) (now (words .entry))) ⌝ }
+{
+    looked(r, level);
+    let due = due_code(r, level);
+    if due == 0 {
+        instruction_step(m, places, words, q, r)
+    } else {
+        event_step(m, places, words, q, r, due);
+        false
+    }
+}
