@@ -13,6 +13,7 @@ pub mod Executes
 pub mod Constants
 pub mod Steps
 pub mod Counts
+pub mod Held
 pub mod Levels
 pub mod Shapes
 pub mod Words

@@ -5,19 +5,19 @@ use mathlib.Core.Path.{_≡_, refl, sym, ap, _∙_}
 use mathlib.Core.Bool.{Bool, true, false, cond, not, _&&_}
 use native.Mathlib.Omega.{arith}
 use lib.ListN.{length, getD}
-use lib.Seq.{getD-set-other}
 use lib.Dec.{leb}
 use Rattle.memory.specs.Bytes.{Memory, wholePages, oddBoard}
 use Rattle.program.specs.Access.{Gave, gave}
 use Rattle.program.specs.Program.{ret, interpret, plain}
 use Rattle.program.proofs.Interpret.{interpret-after}
-use Rattle.machine.specs.Registers.{psw, sp, msp, traceDue, goodBank, badRegister}
+use Rattle.machine.specs.Registers.{psw, goodBank, badRegister}
 use Rattle.machine.specs.Status.{Cpu, reg, isUser, isVirtual}
 use Rattle.access.specs.Parts.{Out, ok, stop, onward, _>>=_, done}
 use Rattle.exec.specs.Execute.{normal, execute, Traced, traced}
 use Rattle.step.specs.Events.{Due, none, interrupt, timer1, timer2, trace, dueOf, looked, dueCode}
 use Rattle.step.specs.Step.{Met, meets, vectored, fetchInstruction, Acted, finished, sequenced, act, attempt, tracesAt, traceFalls, stepped, finish, instructionStep, stepFor, step, timed, holdsStack}
 use Rattle.run.specs.Run.{Board, board, Turn, goes, ends, unlessLost, afterStep, turn, Tried, tried, fetched, kcallCode, unimplementedCode, isKcall, tryActed, confinedAttempt, afterTry, tryTurn, confinedFor, confinedTurn, Ended, budgetSpent, going, advance, refusal, badLevel, notConfined, unlessRefused, run}
+use Rattle.bounds.proofs.Held.{holds-traced}
 use Rattle.isolation.specs.Course.{Order, confined, course}
 use Rattle.isolation.proofs.Courses.{course-at, course-steps, course-spent}
 
@@ -59,12 +59,6 @@ attempt-follows c m =
     go : (o : Out Met) (w : Memory) → Follows (interpret plain (onward (tryActed c) o) w) (interpret plain (onward (act c) o) w)
     go (ok k) w = act-follows c k w
     go (stop n d) w = λ t e h. let z : _≡_ {A = ℕ} 0 1 = cc in absurd (omega arith)
-
--- a trace that falls due moves no stack
-holds-traced : (b : Bool) (d : Cpu) → holdsStack (traceFalls b d) ≡ holdsStack d
-holds-traced true d =
-    rw (getD-set-other (d .bank) traceDue sp 1 0 (λ e. omega arith), getD-set-other (d .bank) traceDue msp 1 0 (λ e. omega arith)) refl
-holds-traced false d = refl
 
 -- ---- one turn
 

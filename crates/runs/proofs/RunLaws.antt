@@ -1,0 +1,219 @@
+-- The loop of a run, its refusals, and the machine that it leaves.
+-- Assumes nothing.
+use Prim.Native.Nat.{ℕ, zero, suc, _+_, _-_, _/_, _%_, _^_, _<_, _≤_}
+use mathlib.Core.Path.{_≡_, refl, sym, ap, _∙_}
+use mathlib.Core.Bool.{Bool, true, false, cond, not, _&&_}
+use native.Mathlib.Omega.{arith}
+use lib.ListN.{length, length-append}
+use lib.Dec.{eqb, leb}
+use borrow.Author.Tests.{ne-eqb, le-leb, lt-leb, eqb-true}
+use Rattle.laws.proofs.Cases.{and-left}
+use Rattle.memory.specs.Bytes.{Memory, wholePages}
+use Rattle.program.specs.Access.{gave}
+use Rattle.program.specs.Program.{interpret, plain}
+use Rattle.program.proofs.Bounded.{bounded-result}
+use Rattle.machine.specs.declared.Machine.{Machine}
+use Rattle.machine.specs.Registers.{Bank, goodBank}
+use Rattle.machine.specs.Cache.{Cache, quadsOf}
+use Rattle.machine.specs.Status.{Cpu, cpu, isUser, isVirtual}
+use Rattle.machine.specs.Record.{dues, bankOf, cpuOf, machineOf}
+use Rattle.machine.proofs.RecordLaws.{bank-shape, cpu-machine}
+use Rattle.machine.proofs.Flat.{shape-quads}
+use Rattle.access.specs.Parts.{Out, ok, stop}
+use Rattle.step.specs.Events.{Due, none, interrupt, timer1, timer2, trace, dueOf, dueCode, looked}
+use Rattle.step.specs.Step.{finished, sequenced, tracesAt, traceFalls, stepped, step, timed, holdsStack}
+use Rattle.run.specs.Run.{Board, board, Turn, goes, ends, refused, eventDue, lostStack, unlessLost, turn, Tried, tried, fetched, confinedAttempt, afterTry, confinedFor, confinedTurn, turnOf, Ended, ended, going, advance, refusal, unlessRefused, run}
+use Rattle.bounds.proofs.Within.{Any}
+use Rattle.bounds.proofs.Steps.{Leaves}
+use Rattle.bounds.proofs.Shapes.{Shaped, step-shaped, confined-shaped, looked-shaped, trace-shaped, timed-shaped}
+use Rattle.runs.specs.declared.running.Ran.{Ran}
+use Rattle.runs.specs.Code.{turned, stoppedAt, endedOf}
+
+-- ---- the loop: what is left gives what the whole gives
+
+pub record Going (t : Board → Turn) (budget : ℕ) (s₀ : Board) (n : ℕ) (s : Board) : Type 0 where
+  pub upto : n ≤ budget
+  pub long : length (s .memory) ≡ length (s₀ .memory)
+  pub rest : advance t n (budget - n) s ≡ advance t 0 budget s₀
+
+pub going-begun : (t : Board → Turn) (budget : ℕ) (s : Board) → Going t budget s 0 s
+going-begun t budget s = record { upto = omega arith; long = refl; rest = ap (λ (k : ℕ). advance t 0 k s) all }
+  where
+    all : budget - 0 ≡ budget
+    all = omega arith
+
+module _ (t : Board → Turn) (budget : ℕ) (s₀ : Board) (n : ℕ) (s : Board) (g : Going t budget s₀ n s) where
+  module _ (h : n < budget) (x : ℕ) (u : Board) (e : turned x u ≡ t s) where
+    -- one turn more
+    once : (o : Ended) → (k : ℕ) → budget - n ≡ suc k → advance t n (suc k) s ≡ o → o ≡ advance t 0 budget s₀
+    once o k f i = sym i ∙ ap (λ (j : ℕ). advance t n j s) (sym f) ∙ g .rest
+
+    pub going-more : x ≡ 0 → length (u .memory) ≡ length (s .memory) → Going t budget s₀ (n + 1) u
+    unfolding advance
+    going-more f l = record { upto = omega arith; long = l ∙ g .long; rest = more }
+      where
+        left : budget - n ≡ suc (budget - (n + 1))
+        left = omega arith
+
+        next : n + 1 ≡ suc n
+        next = omega arith
+
+        goes-on : t s ≡ goes u
+        goes-on = sym e ∙ rw f refl
+
+        more : advance t (n + 1) (budget - (n + 1)) u ≡ advance t 0 budget s₀
+        more = ap (λ (j : ℕ). advance t j (budget - (n + 1)) u) next ∙ once _ (budget - (n + 1)) left (rw goes-on refl)
+
+    pub going-stopped : (x ≡ 0 → ⊥) → ended n (x / 2 ^ 32) (x % 2 ^ 32) u ≡ advance t 0 budget s₀
+    unfolding advance
+    going-stopped f = once _ (budget - (n + 1)) left (rw ends-now refl)
+      where
+        left : budget - n ≡ suc (budget - (n + 1))
+        left = omega arith
+
+        ends-now : t s ≡ ends (x / 2 ^ 32) (x % 2 ^ 32) u
+        ends-now = sym e ∙ simp (ne-eqb x 0 f)
+
+  pub going-end : budget ≤ n → ended n 0 0 s ≡ advance t 0 budget s₀
+  unfolding advance
+  going-end h = sym (ap (λ (j : ℕ). advance t n j s) none-left) ∙ g .rest
+    where
+      none-left : budget - n ≡ 0
+      none-left = omega (arith, g .upto)
+
+-- ---- refusals
+
+module _ (confined : Bool) (level : ℕ) (b : Bank) (q : Cache) (m : Memory) (w : Bool) (ew : w ≡ wholePages (length m)) where
+  pub refuses-board : not w ≡ true → 1 ≡ refusal confined level (board (cpu b q) m)
+  unfolding refusal
+  refuses-board h = rw (sym ew, h) refl
+
+  module _ (fw : not w ≡ false) (g : Bool) (eg : g ≡ goodBank b) where
+    pub refuses-register : not g ≡ true → 2 ≡ refusal confined level (board (cpu b q) m)
+    unfolding refusal
+    refuses-register h = rw (sym ew, fw, sym eg, h) refl
+
+    module _ (fg : not g ≡ false) where
+      pub refuses-level : 7 < level → 3 ≡ refusal confined level (board (cpu b q) m)
+      unfolding refusal
+      refuses-level h = rw (sym ew, fw, sym eg, fg, lt-leb level 7 h) refl
+
+      module _ (h : level ≤ 7) (u v : Bool) (eu : u ≡ isUser b) (ev : v ≡ isVirtual b) where
+        pub refuses-confined : (confined && not (u && v)) ≡ true → 9 ≡ refusal confined level (board (cpu b q) m)
+        unfolding refusal
+        refuses-confined f = rw (sym ew, fw, sym eg, fg, le-leb level 7 h, sym eu, sym ev, f) refl
+
+        pub refuses-nothing : (confined && not (u && v)) ≡ false → 0 ≡ refusal confined level (board (cpu b q) m)
+        unfolding refusal
+        refuses-nothing f = rw (sym ew, fw, sym eg, fg, le-leb level 7 h, sym eu, sym ev, f) refl
+
+-- ---- a run keeps the shape of the machine
+
+abbrev Shapes : Turn → Type 0
+Shapes (goes s) = Shaped (s .cpu)
+Shapes (ends r k s) = Shaped (s .cpu)
+
+lost-shapes : (b : Bool) (s : Board) (t : Turn) → Shaped (s .cpu) → Shapes t → Shapes (unlessLost b s t)
+lost-shapes true s t h f = f
+lost-shapes false s t h f = h
+
+turn-shapes : (level : ℕ) (s : Board) → Shaped (s .cpu) → Shapes (turn level s)
+unfolding turn
+turn-shapes level s h =
+    lost-shapes (holdsStack (interpret plain (step level (s .cpu)) (s .memory) .out .cpu)) s _ h
+    (timed-shaped (s .cpu) (interpret plain (step level (s .cpu)) (s .memory) .out)
+    (bounded-result plain Any (λ x. Shaped (x .cpu)) 79 (step level (s .cpu)) (s .memory) (step-shaped level (s .cpu) h)))
+
+try-shapes : (s : Board) (c : Cpu) (o : Out Tried) (m : Memory) → Shaped (s .cpu) → Shaped c → Leaves Shaped o → Shapes (afterTry s c o m)
+try-shapes s c (ok (tried (finished t d))) m h k l =
+    lost-shapes (holdsStack d) s _ h (timed-shaped (s .cpu) (stepped (traceFalls (tracesAt _ t) d) true) (trace-shaped (tracesAt _ t) d l))
+try-shapes s c (ok (tried (sequenced d))) m h k l = absurd l
+try-shapes s c (ok (fetched n)) m h k l = lost-shapes (holdsStack c) s _ h k
+try-shapes s c (stop e d) m h k l = lost-shapes (holdsStack d) s _ h l
+
+confined-shapes : (level : ℕ) (s : Board) → Shaped (s .cpu) → Shapes (confinedTurn level s)
+unfolding confinedTurn
+confined-shapes level s h = go (dueOf level (looked level (s .cpu) .bank))
+  where
+    c : Cpu
+    c = looked level (s .cpu)
+
+    k : Shaped c
+    k = looked-shaped level (s .cpu) h
+
+    go : (d : Due) → Shapes (confinedFor d s c)
+    go none =
+        try-shapes s c (interpret plain (confinedAttempt c) (s .memory) .out) (interpret plain (confinedAttempt c) (s .memory) .world) h k
+        (bounded-result plain Any (Leaves Shaped) 75 (confinedAttempt c) (s .memory) (confined-shaped c k))
+    go (interrupt n) = k
+    go timer1 = k
+    go timer2 = k
+    go trace = k
+
+one-shapes : (confined : Bool) (level : ℕ) (s : Board) → Shaped (s .cpu) → Shapes (turnOf confined level s)
+one-shapes true level s h = confined-shapes level s h
+one-shapes false level s h = turn-shapes level s h
+
+advance-shaped : (confined : Bool) (level n budget : ℕ) (s : Board) → Shaped (s .cpu) → Shaped (advance (turnOf confined level) n budget s .left .cpu)
+unfolding advance
+advance-shaped confined level n zero s h = h
+advance-shaped confined level n (suc budget) s h =
+    go (turnOf confined level s) (one-shapes confined level s h) (λ u f. advance-shaped confined level (suc n) budget u f)
+  where
+    go : (t : Turn) → Shapes t → ((u : Board) → Shaped (u .cpu) → Shaped (advance (turnOf confined level) (suc n) budget u .left .cpu))
+        → Shaped (going n (λ u. advance (turnOf confined level) (suc n) budget u) t .left .cpu)
+    go (goes u) f k = k u f
+    go (ends r c u) f k = f
+
+-- ---- the run
+
+module _ (confined : Bool) (budget level : ℕ) (begun : Machine) (m : Memory) (b : Bank) (q : Cache) (eb : b ≡ bankOf begun) (eq : q ≡ quadsOf (begun .cache))
+    (e : ℕ) (ee : e ≡ refusal confined level (board (cpu b q) m)) where
+  same : board (cpu b q) m ≡ board (cpuOf begun) m
+  same = rw (eb, eq) refl
+
+  refused-as : refusal confined level (board (cpuOf begun) m) ≡ e
+  refused-as = ap (λ (s : Board). refusal confined level s) (sym same) ∙ sym ee
+
+  pub run-refused : (e ≡ 0 → ⊥) → endedOf (record { machine = begun; steps = 0; stop = 1; code = e }) m ≡ run confined budget level (board (cpuOf begun) m)
+  unfolding run
+  run-refused h = rw refused-as (go e h)
+    where
+      go : (k : ℕ) → (k ≡ 0 → ⊥) → ended 0 1 k (board (cpuOf begun) m) ≡ unlessRefused k (advance (turnOf confined level) 0 budget (board (cpuOf begun) m)) (board (cpuOf begun) m)
+      go zero f = absurd (f refl)
+      go (suc k) f = refl
+
+  -- a, p and l are what the turns left
+  pub run-done : e ≡ 0 → length b ≡ 17 → (n r k : ℕ) (a : Bank) (p : Cache) (l : Memory)
+      → ended n r k (board (cpu a p) l) ≡ advance (turnOf confined level) 0 budget (board (cpu b q) m)
+      → (d : Machine) → d ≡ machineOf a p
+      → endedOf (record { machine = d; steps = n; stop = r; code = k }) l ≡ run confined budget level (board (cpuOf begun) m)
+  unfolding run
+  run-done h long n r k a p l f d ed =
+      ap (λ (c : Cpu). ended n r k (board c l)) (ap (λ (x : Machine). cpuOf x) ed ∙ cpu-machine a p (held .bank) (held .cache))
+      ∙ f
+      ∙ rw (refused-as ∙ h) (ap (λ (s : Board). advance (turnOf confined level) 0 budget s) same)
+    where
+      thirteen : length (begun .registers) ≡ 13
+      thirteen = let f : length (begun .registers) + 4 ≡ 17 = sym (length-append (begun .registers) (dues begun)) ∙ ap (λ (l : Bank). length l) (sym eb) ∙ long in omega arith
+
+      begun-shaped : Shaped (cpu b q)
+      begun-shaped = rw (eb, eq) (record { bank = bank-shape begun thirteen; cache = shape-quads (begun .cache) })
+
+      held : Shaped (cpu a p)
+      held = rw (ap (λ (x : Ended). x .left .cpu) f) (advance-shaped confined level 0 budget (board (cpu b q) m) begun-shaped)
+
+-- whole pages are whole words
+pub words-whole : (confined : Bool) (level : ℕ) (s : Board) (e : ℕ) → e ≡ refusal confined level s → e ≡ 0 → length (s .memory) % 4 ≡ 0
+unfolding refusal
+words-whole confined level s e ee h = go (wholePages (length (s .memory))) refl (sym ee ∙ h)
+  where
+    divides : length (s .memory) % 4096 ≡ 0 → length (s .memory) % 4 ≡ 0
+    divides f = omega arith
+
+    go : (w : Bool) → wholePages (length (s .memory)) ≡ w → refusal confined level s ≡ 0 → length (s .memory) % 4 ≡ 0
+    go true f i = divides (eqb-true (length (s .memory) % 4096) 0 (and-left _ _ (and-left _ _ f)))
+    go false f i = absurd (never (sym (rw f refl) ∙ i))
+      where
+        never : _≡_ {A = ℕ} 1 0 → ⊥
+        never z = omega arith

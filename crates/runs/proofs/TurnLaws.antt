@@ -1,0 +1,207 @@
+-- The ways out of a turn.
+-- Assumes nothing.
+use Prim.Native.Nat.{ℕ, _+_, _-_, _*_, _/_, _%_, _^_, _<_, _≤_}
+use mathlib.Core.Path.{_≡_, refl, sym, ap, _∙_}
+use mathlib.Core.Bool.{Bool, true, false, cond, not}
+use mathlib.Core.List.{List}
+use native.Mathlib.Omega.{arith}
+use lib.ListN.{set, length, length-set}
+use lib.Dec.{eqb}
+use borrow.Author.Tests.{ne-eqb, lt-ltb, le-ltb}
+use Rattle.memory.specs.Answers.{answerOf}
+use Rattle.memory.specs.Bytes.{Memory}
+use Rattle.memory.proofs.AnswerLaws.{answer-got}
+use Rattle.program.specs.Access.{Gave, gave}
+use Rattle.program.specs.Program.{interpret, plain}
+use Rattle.program.specs.Journal.{journal, undo, Journaled, journaled, logging}
+use Rattle.machine.specs.Registers.{Bank, word, config, psw}
+use Rattle.machine.specs.Cache.{Cache}
+use Rattle.machine.specs.Status.{Cpu, cpu, isUser}
+use Rattle.access.specs.Parts.{Out, ok, stop}
+use Rattle.rows.specs.Rows.{tracedFrom}
+use Rattle.step.specs.Events.{Due, none, interrupt, timer1, timer2, trace, dueOf, dueCode, looked}
+use Rattle.step.specs.Timers.{counted}
+use Rattle.step.specs.Step.{finished, sequenced, tracesAt, traceFalls, Stepped, stepped, step, timed, holdsStack}
+use Rattle.run.specs.Run.{Board, board, Turn, goes, ends, refused, eventDue, lostStack, unlessLost, afterStep, turn, Tried, tried, fetched, unimplementedCode, confinedAttempt, afterTry, tryTurn, confinedFor, confinedTurn, turnOf}
+use Rattle.bank.specs.Dues.{dueFrom}
+use Rattle.control.proofs.FlowLaws.{Made}
+use Rattle.attempts.specs.Code.{attemptOf, triedOut}
+use Rattle.attempts.proofs.ActLaws.{answers-class, answers-stop}
+use Rattle.attempts.proofs.AttemptLaws.{confined-attempted}
+use Rattle.steps.proofs.EventLaws.{due-known}
+use Rattle.bounds.proofs.Counts.{step-bounded, confined-bounded}
+use Rattle.bounds.proofs.Held.{holds-traced, holds-counted}
+use Rattle.runs.specs.Code.{turned}
+use Rattle.runs.proofs.Back.{Long, plainly, put-back, still-long}
+
+-- ---- the number of a stop
+
+pub turned-stop : (n v : ℕ) (s : Board) → n < 2 ^ 32 → v ≡ 2 * 2 ^ 32 + n → turned v s ≡ ends eventDue n s
+turned-stop n v s h e =
+    let f : (v ≡ 0 → ⊥) = λ z. omega arith in
+    let g : v / 2 ^ 32 ≡ 2 = omega arith in
+    let k : v % 2 ^ 32 ≡ n = omega arith in
+    rw (ne-eqb v 0 f, g, k) refl
+
+pub below-three : (n : ℕ) → n < 4 → (n ≡ 3 → ⊥) → n < 3
+below-three n h f = omega arith
+
+-- ---- number 4
+
+module _ (b : Bank) (q : Cache) (k : Memory) (s : Board) (x : ℕ) (z : Bool) (ez : z ≡ holdsStack (cpu b q)) where
+  pub judge-holds : z ≡ true → turned x (board (cpu b q) k) ≡ unlessLost (holdsStack (cpu b q)) s (turned x (board (cpu b q) k))
+  judge-holds h = rw (sym ez ∙ h) refl
+
+  pub judge-lost : z ≡ false → (l : Board) → l ≡ s → turned 0x100000004 l ≡ unlessLost (holdsStack (cpu b q)) s (turned x (board (cpu b q) k))
+  judge-lost h l e = rw (sym ez ∙ h, e) refl
+
+-- a turn by what it was judged on: u is what the undoing leaves
+judged : (s : Board) (c d : Cpu) (u : Memory) (t : Turn) (f : Cpu → Turn) → c ≡ d → u ≡ s .memory
+    → t ≡ unlessLost (holdsStack c) (board (s .cpu) u) (f c) → t ≡ unlessLost (holdsStack d) s (f d)
+judged s c d u t f e g h =
+    h ∙ ap (λ (x : Cpu). unlessLost (holdsStack x) (board (s .cpu) u) (f x)) e ∙ ap (λ (m : Memory). unlessLost (holdsStack d) (board (s .cpu) m) (f d)) g
+
+pub begun-long : (m : Memory) (x : List ℕ) (w : List (List ℕ)) → Long m x w → (x₀ : List ℕ) → x₀ ≡ set x 0 0 → (length x₀ ≡ 201) × (length w ≡ 200)
+begun-long m x w long x₀ e = (ap (λ (l : List ℕ). length l) e ∙ length-set x 0 0 ∙ long .1, long .2)
+
+-- ---- kind 03
+
+module _ (level : ℕ) (b : Bank) (q : Cache) (m : Memory) (x : List ℕ) (w : List (List ℕ)) (long : Long m x w) (a : Bank) (p : Cache) (z : Bool) (k : Memory) (y : List ℕ) (v : List (List ℕ))
+    (x₀ : List ℕ) (ex : x₀ ≡ set x 0 0) (e : gave (stepped (cpu a p) z) (journaled k y v) ≡ interpret logging (step level (cpu b q)) (journaled m x₀ w)) where
+  pub turn-long : (length y ≡ 201) × (length v ≡ 200)
+  turn-long = still-long 79 (step level (cpu b q)) (stepped (cpu a p) z) m x w k y v (step-bounded level (cpu b q)) (omega arith) long x₀ ex e
+
+  pub turn-taken : (user : Bool) → user ≡ isUser b → (d : Bank) → Made a d (λ c. counted (word b config) (not user) z c)
+      → (t : Turn) → t ≡ unlessLost (holdsStack (cpu d p)) (board (cpu b q) (undo (journal y v) k)) (goes (board (cpu d p) k))
+      → t ≡ turn level (board (cpu b q) m)
+  unfolding turn
+  turn-taken user eu d ed t h =
+      judged s (cpu d p) after (undo (journal y v) k) t (λ c. goes (board c k)) (ed p ∙ ap (λ (n : Bool). counted (word b config) (not n) z (cpu a p)) eu)
+      (put-back 79 (step level (cpu b q)) (stepped (cpu a p) z) m x w k y v (step-bounded level (cpu b q)) (omega arith) long x₀ ex e) h
+      ∙ ap (λ (l : Bool). unlessLost l s (goes (board after k))) (holds-counted (word b config) (not (isUser b)) z (cpu a p))
+      ∙ ap (λ (g : Gave Memory Stepped). afterStep s g) (plainly (step level (cpu b q)) (stepped (cpu a p) z) (journaled m x₀ w) (journaled k y v) e)
+    where
+      s : Board
+      s = board (cpu b q) m
+
+      after : Cpu
+      after = counted (word b config) (not (isUser b)) z (cpu a p)
+
+-- ---- kind 04: i is the bank after the look, n the number of what is due
+
+module _ (level : ℕ) (b : Bank) (q : Cache) (m : Memory) (i : Bank) (ei : Made b i (λ c. looked level c)) (n : ℕ) (en : n ≡ dueCode (dueOf level i)) where
+  due-is : dueFrom n ≡ dueOf level i
+  due-is = ap (λ (k : ℕ). dueFrom k) en ∙ due-known level i .0
+
+  confined-by : confinedTurn level (board (cpu b q) m) ≡ confinedFor (dueFrom n) (board (cpu b q) m) (cpu i q)
+  unfolding confinedTurn
+  confined-by =
+      ap (λ (c : Cpu). confinedFor (dueOf level (c .bank)) (board (cpu b q) m) c) (sym (ei q)) ∙ ap (λ (d : Due). confinedFor d (board (cpu b q) m) (cpu i q)) (sym due-is)
+
+  ends-by : (n ≡ 0 → ⊥) → confinedFor (dueFrom n) (board (cpu b q) m) (cpu i q) ≡ ends eventDue (dueCode (dueFrom n)) (board (cpu i q) m)
+  ends-by h = rw (ne-eqb n 0 h) (go (eqb n 2) (eqb n 0x17) (eqb n 0x18))
+    where
+      which : Bool → Bool → Bool → Due
+      which f g j = cond f trace (cond g timer1 (cond j timer2 (interrupt (n - 0x10))))
+
+      go : (f g j : Bool) → confinedFor (which f g j) (board (cpu b q) m) (cpu i q) ≡ ends eventDue (dueCode (which f g j)) (board (cpu i q) m)
+      go true g j = refl
+      go false true j = refl
+      go false false true = refl
+      go false false false = refl
+
+  pub confined-event : (n ≡ 0 → ⊥) → (v : ℕ) → v ≡ 2 * 2 ^ 32 + n → turned v (board (cpu i q) m) ≡ confinedTurn level (board (cpu b q) m)
+  confined-event h v ev =
+      turned-stop n v (board (cpu i q) m) small ev
+      ∙ ap (λ (k : ℕ). ends eventDue k (board (cpu i q) m)) (en ∙ ap dueCode (sym due-is))
+      ∙ sym (confined-by ∙ ends-by h)
+    where
+      bounded : n < 32
+      bounded = rw en (due-known level i .1)
+
+      small : n < 2 ^ 32
+      small = omega (arith, bounded)
+
+  -- nothing is due: a and p are bank and cache after the attempt, r its answer
+  module _ (en0 : n ≡ 0) (x : List ℕ) (w : List (List ℕ)) (long : Long m x w) (r : ℕ) (a : Bank) (p : Cache) (k : Memory) (y : List ℕ) (v : List (List ℕ)) (x₀ : List ℕ) (ex : x₀ ≡ set x 0 0)
+      (e : gave (triedOut (answerOf r) a p) (journaled k y v) ≡ interpret logging (attemptOf true (cpu i q)) (journaled m x₀ w)) where
+    abbrev s : Board
+    s = board (cpu b q) m
+
+    tried-as : gave (triedOut (answerOf r) a p) (journaled k y v) ≡ interpret logging (confinedAttempt (cpu i q)) (journaled m x₀ w)
+    tried-as = e ∙ confined-attempted (cpu i q) (journaled m x₀ w)
+
+    turn-is : confinedTurn level s ≡ afterTry s (cpu i q) (triedOut (answerOf r) a p) k
+    turn-is =
+        confined-by
+        ∙ ap (λ (j : ℕ). confinedFor (dueFrom j) s (cpu i q)) en0
+        ∙ ap (λ (g : Gave Memory (Out Tried)). tryTurn s (cpu i q) g) (sym (plainly (confinedAttempt (cpu i q)) (triedOut (answerOf r) a p) (journaled m x₀ w) (journaled k y v) tried-as))
+
+    undone-is : undo (journal y v) k ≡ m
+    undone-is =
+        put-back 75 (confinedAttempt (cpu i q)) (triedOut (answerOf r) a p) m x w k y v (confined-bounded (cpu i q)) (omega arith) long x₀ ex tried-as
+
+    pub confined-long : (length y ≡ 201) × (length v ≡ 200)
+    confined-long =
+        still-long 75 (confinedAttempt (cpu i q)) (triedOut (answerOf r) a p) m x w k y v (confined-bounded (cpu i q)) (omega arith) long x₀ ex tried-as
+
+    module _ (t : Turn) where
+      pub confined-fault : 2 ^ 32 ≤ r → (o g : ℕ) → o ≡ r % 2 ^ 32 → g ≡ 2 * 2 ^ 32 + o
+          → t ≡ unlessLost (holdsStack (cpu a p)) (board (cpu b q) (undo (journal y v) k)) (turned g (board (cpu a p) k)) → t ≡ confinedTurn level s
+      confined-fault h o g eo eg f =
+          judged s (cpu a p) (cpu a p) (undo (journal y v) k) t (λ c. turned g (board c k)) refl undone-is f
+          ∙ ap (λ (j : Turn). unlessLost (holdsStack (cpu a p)) s j) (turned-stop o g (board (cpu a p) k) (omega arith) eg ∙ ap (λ (j : ℕ). ends eventDue j (board (cpu a p) k)) eo)
+          ∙ sym (turn-is ∙ ap (λ (j : Out Tried). afterTry s (cpu i q) j k) (answers-stop r a p h))
+
+      -- only fetched: d is the bank looked at again
+      pub confined-fetched : r < 2 ^ 32 → 4 ≤ r → (d : Bank) → Made b d (λ c. looked level c) → (g : ℕ) → g ≡ 2 * 2 ^ 32 + r
+          → t ≡ unlessLost (holdsStack (cpu d q)) (board (cpu b q) (undo (journal y v) k)) (turned g (board (cpu d q) k)) → t ≡ confinedTurn level s
+      confined-fetched h l d ed g eg f =
+          judged s (cpu d q) (cpu i q) (undo (journal y v) k) t (λ c. turned g (board c k)) (ed q ∙ sym (ei q)) undone-is f
+          ∙ ap (λ (j : Turn). unlessLost (holdsStack (cpu i q)) s j) (turned-stop r g (board (cpu i q) k) h eg)
+          ∙ sym (turn-is ∙ ap (λ (j : Out Tried). afterTry s (cpu i q) j k) only)
+        where
+          only : triedOut (answerOf r) a p ≡ ok (fetched r)
+          only = simp (answer-got r h, le-ltb r 4 l)
+
+      pub confined-sequence : r ≡ 3 → (g : ℕ) → g ≡ 2 * 2 ^ 32 + 0x21
+          → t ≡ unlessLost (holdsStack (cpu a p)) (board (cpu b q) (undo (journal y v) k)) (turned g (board (cpu a p) k)) → t ≡ confinedTurn level s
+      confined-sequence h g eg f =
+          judged s (cpu a p) (cpu a p) (undo (journal y v) k) t (λ c. turned g (board c k)) refl undone-is f
+          ∙ ap (λ (j : Turn). unlessLost (holdsStack (cpu a p)) s j) (turned-stop 0x21 g (board (cpu a p) k) (omega arith) eg)
+          ∙ sym (turn-is ∙ ap (λ (j : Out Tried). afterTry s (cpu i q) j k) only)
+        where
+          only : triedOut (answerOf r) a p ≡ ok (tried (sequenced (cpu a p)))
+          only = rw (h, answer-got 3 (omega arith)) refl
+
+      -- finished: d is the bank with its trace, o with the timers too
+      pub confined-done : r < 3 → (j : ℕ) → j ≡ r % 2 ^ 32 → (z : Bool) → z ≡ tracesAt (word i psw) (tracedFrom j) → (d : Bank) → Made a d (λ c. traceFalls z c)
+          → (user : Bool) → user ≡ isUser b → (o : Bank) → Made d o (λ c. counted (word b config) (not user) true c)
+          → t ≡ unlessLost (holdsStack (cpu o p)) (board (cpu b q) (undo (journal y v) k)) (goes (board (cpu o p) k)) → t ≡ confinedTurn level s
+      confined-done h j ej z ez d ed user eu o eo f =
+          judged s (cpu o p) after (undo (journal y v) k) t (λ c. goes (board c k)) timed-as undone-is f
+          ∙ ap (λ (l : Bool). unlessLost l s (goes (board after k))) (holds-counted (word b config) (not (isUser b)) true (traceFalls traces (cpu a p)) ∙ holds-traced traces (cpu a p))
+          ∙ sym (turn-is ∙ ap (λ (l : Out Tried). afterTry s (cpu i q) l k) (answers-class r (tracedFrom r) a p refl h))
+        where
+          traces : Bool
+          traces = tracesAt (word i psw) (tracedFrom r)
+
+          after : Cpu
+          after = counted (word b config) (not (isUser b)) true (traceFalls traces (cpu a p))
+
+          whole : j ≡ r
+          whole = omega arith
+
+          timed-as : cpu o p ≡ after
+          timed-as =
+              eo p ∙ ap (λ (l : Bool). counted (word b config) (not l) true (cpu d p)) eu
+              ∙ ap (λ (c : Cpu). counted (word b config) (not (isUser b)) true c) (ed p ∙ ap (λ (l : Bool). traceFalls l (cpu a p)) (ez ∙ ap (λ (l : ℕ). tracesAt (word i psw) (tracedFrom l)) whole))
+
+-- ---- either kind
+
+module _ (confined : Bool) (level : ℕ) (s : Board) (t : Turn) where
+  pub takes-confined : confined ≡ true → t ≡ confinedTurn level s → t ≡ turnOf confined level s
+  takes-confined h e = rw h e
+
+  pub takes-events : confined ≡ false → t ≡ turn level s → t ≡ turnOf confined level s
+  takes-events h e = rw h e

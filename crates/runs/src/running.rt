@@ -1,0 +1,113 @@
+// A run: its refusals, its turns under a budget, its answer.
+use crate::turns::take_turn;
+use machine::Machine;
+use machine::cache::quads;
+use machine::record::bank;
+use machine::record::machine_of;
+use machine::registers::good_bank;
+use machine::status::is_user;
+use machine::status::is_virtual;
+use memory::places::whole_pages;
+ghost use mathlib.Core.Path.{_≡_};
+ghost use Prim.Native.Nat.{_%_};
+ghost use lib.ListN.{length};
+ghost use Rattle.machine.specs.Status.{cpu};
+ghost use Rattle.machine.specs.Record.{cpuOf};
+ghost use Rattle.run.specs.Run.{board, turnOf, advance as advanceOf, refusal as refusalOf, run as runOf};
+ghost use Rattle.runs.specs.Code.{stoppedAt, endedOf};
+
+// Steps done, the stop and its code.
+pub struct Stopped {
+    pub steps: u32,
+    pub stop: u32,
+    pub code: u32,
+}
+
+// The same with the machine that is left.
+pub struct Ran {
+    pub machine: Machine,
+    pub steps: u32,
+    pub stop: u32,
+    pub code: u32,
+}
+
+// Turns until one stops or the budget is spent, which is looked at before any event.
+fn advance(
+    m: &mut [u8],
+    q: &mut [[u32; 4]; 16],
+    r: &mut [u32; 17],
+    confined: bool,
+    budget: u32,
+    level: u32,
+) -> Stopped
+    requires { ⌜ length (now m) % 4 ≡ 0 ⌝ }
+    ensures { λ x. ⌜ stoppedAt x (board (cpu (now (r .exit)) (now (q .exit))) (now (m .exit))) ≡ advanceOf (turnOf confined level) 0 budget (board (cpu (now (r .entry)) (now (q .entry))) (now (m .entry))) ⌝ }
+{
+    let mut places = [0u32; 201];
+    let mut words = [[0u8; 4]; 200];
+    let mut n = 0;
+    while n < budget {
+        let x = take_turn(m, &mut places, &mut words, q, r, confined, level);
+        if x != 0 {
+            return Stopped {
+                steps: n,
+                stop: (x / 0x1_0000_0000) as u32,
+                code: (x % 0x1_0000_0000) as u32,
+            };
+        }
+        n = n + 1;
+    }
+    Stopped {
+        steps: n,
+        stop: 0,
+        code: 0,
+    }
+}
+
+// The refusals 1, 2, 3 and 9 in this order; 0 is none.
+fn refusal(m: &[u8], r: &[u32; 17], q: &[[u32; 4]; 16], confined: bool, level: u32) -> u32
+    ensures { λ x. ⌜ x ≡ refusalOf confined level (board (cpu (now (r .entry)) (now (q .entry))) (now (m .entry))) ⌝ }
+{
+    if !whole_pages(m.len()) {
+        1
+    } else {
+        if !good_bank(r) {
+            2
+        } else {
+            if 7 < level {
+                3
+            } else {
+                if confined & !(is_user(r) & is_virtual(r)) {
+                    9
+                } else {
+                    0
+                }
+            }
+        }
+    }
+}
+
+// A run of a machine on a lent memory: kind 03, which takes events, or kind 04, confined.
+pub fn run(m: &mut [u8], begun: Machine, confined: bool, budget: u32, level: u32) -> Ran
+    ensures { λ x. ⌜ endedOf x (now (m .exit)) ≡ runOf confined budget level (board (cpuOf begun) (now (m .entry))) ⌝ }
+{
+    let mut r = bank(begun);
+    let words = begun.cache;
+    let mut q = quads(words);
+    let e = refusal(m, &r, &q, confined, level);
+    if e != 0 {
+        return Ran {
+            machine: begun,
+            steps: 0,
+            stop: 1,
+            code: e,
+        };
+    }
+    let x = advance(m, &mut q, &mut r, confined, budget, level);
+    Ran {
+        machine: machine_of(&r, &q),
+        steps: x.steps,
+        stop: x.stop,
+        code: x.code,
+    }
+}

@@ -1,0 +1,132 @@
+// One turn of a run: a step, or a stop. The journal holds what a step that loses its stack must put back; the lengths
+// required are those of the run's own arrays and of whole pages.
+use attempts::attempt::attempt;
+use bank::events::due_code;
+use bank::events::looked;
+use bank::events::trace_falls;
+use bank::timers::counted;
+use handler::journal::begin;
+use handler::journal::undo;
+use machine::registers::stack_held;
+use machine::status::is_user;
+use memory::answers::low32;
+use rows::tracing::traces_at;
+use steps::stepping::step;
+ghost use mathlib.Core.Path.{_≡_};
+ghost use Prim.Native.Nat.{_%_};
+ghost use lib.ListN.{length};
+ghost use Rattle.program.specs.Journal.{journal, undo as undoOf};
+ghost use Rattle.machine.specs.Status.{cpu};
+ghost use Rattle.step.specs.Step.{holdsStack};
+ghost use Rattle.run.specs.Run.{board, unlessLost, turn as turnFor, confinedTurn, turnOf};
+ghost use Rattle.runs.specs.Code.{turned};
+
+// A turn that would end with x; one that loses its stack is refused with number 4 and leaves what was before it.
+fn judge(
+    m: &mut [u8],
+    places: &[u32; 201],
+    words: &[[u8; 4]; 200],
+    q: &mut [[u32; 4]; 16],
+    r: &mut [u32; 17],
+    bank: &[u32; 17],
+    cache: &[[u32; 4]; 16],
+    x: u64,
+) -> u64
+    ensures { λ y. ⌜ turned y (board (cpu (now (r .exit)) (now (q .exit))) (now (m .exit))) ≡ unlessLost (holdsStack (cpu (now (r .entry)) (now (q .entry)))) (board (cpu (now (bank .entry)) (now (cache .entry))) (undoOf (journal (now (places .entry)) (now (words .entry))) (now (m .entry)))) (turned x (board (cpu (now (r .entry)) (now (q .entry))) (now (m .entry)))) ⌝ }
+{
+    if stack_held(r[8], r[4]) {
+        return x;
+    }
+    undo(m, places, words);
+    *r = *bank;
+    *q = *cache;
+    0x1_0000_0004
+}
+
+// Kind 03: events are taken.
+fn turn(
+    m: &mut [u8],
+    places: &mut [u32; 201],
+    words: &mut [[u8; 4]; 200],
+    q: &mut [[u32; 4]; 16],
+    r: &mut [u32; 17],
+    level: u32,
+) -> u64
+    requires { ⌜ (length (now m) % 4 ≡ 0) × (length (now places) ≡ 201) × (length (now words) ≡ 200) ⌝ }
+    ensures { λ y. ⌜ (turned y (board (cpu (now (r .exit)) (now (q .exit))) (now (m .exit))) ≡ turnFor level (board (cpu (now (r .entry)) (now (q .entry))) (now (m .entry)))) × (length (now (places .exit)) ≡ 201) × (length (now (words .exit)) ≡ 200) ⌝ }
+{
+    let bank = *r;
+    let cache = *q;
+    begin(places);
+    let completed = step(m, places, words, q, r, level);
+    counted(r, bank[0], !is_user(&bank), completed);
+    judge(m, places, words, q, r, &bank, &cache, 0)
+}
+
+// Kind 04: before the first event sequence. An instruction that has only been fetched leaves what the look left.
+fn confined_turn(
+    m: &mut [u8],
+    places: &mut [u32; 201],
+    words: &mut [[u8; 4]; 200],
+    q: &mut [[u32; 4]; 16],
+    r: &mut [u32; 17],
+    level: u32,
+) -> u64
+    requires { ⌜ (length (now m) % 4 ≡ 0) × (length (now places) ≡ 201) × (length (now words) ≡ 200) ⌝ }
+    ensures { λ y. ⌜ (turned y (board (cpu (now (r .exit)) (now (q .exit))) (now (m .exit))) ≡ confinedTurn level (board (cpu (now (r .entry)) (now (q .entry))) (now (m .entry)))) × (length (now (places .exit)) ≡ 201) × (length (now (words .exit)) ≡ 200) ⌝ }
+{
+    let bank = *r;
+    let cache = *q;
+    begin(places);
+    looked(r, level);
+    let due = due_code(r, level);
+    if due != 0 {
+        return 0x2_0000_0000 + due as u64;
+    }
+    let p = r[6];
+    let x = attempt(m, places, words, q, r, true);
+    if 0x1_0000_0000 <= x {
+        return judge(
+            m,
+            places,
+            words,
+            q,
+            r,
+            &bank,
+            &cache,
+            0x2_0000_0000 + low32(x) as u64,
+        );
+    }
+    if 4 <= x {
+        *r = bank;
+        *q = cache;
+        looked(r, level);
+        return judge(m, places, words, q, r, &bank, &cache, 0x2_0000_0000 + x);
+    }
+    if x == 3 {
+        return judge(m, places, words, q, r, &bank, &cache, 0x2_0000_0021);
+    }
+    trace_falls(r, traces_at(p, low32(x)));
+    counted(r, bank[0], !is_user(&bank), true);
+    judge(m, places, words, q, r, &bank, &cache, 0)
+}
+
+// A turn of either kind.
+pub fn take_turn(
+    m: &mut [u8],
+    places: &mut [u32; 201],
+    words: &mut [[u8; 4]; 200],
+    q: &mut [[u32; 4]; 16],
+    r: &mut [u32; 17],
+    confined: bool,
+    level: u32,
+) -> u64
+    requires { ⌜ (length (now m) % 4 ≡ 0) × (length (now places) ≡ 201) × (length (now words) ≡ 200) ⌝ }
+    ensures { λ y. ⌜ (turned y (board (cpu (now (r .exit)) (now (q .exit))) (now (m .exit))) ≡ turnOf confined level (board (cpu (now (r .entry)) (now (q .entry))) (now (m .entry)))) × (length (now (places .exit)) ≡ 201) × (length (now (words .exit)) ≡ 200) ⌝ }
+{
+    if confined {
+        confined_turn(m, places, words, q, r, level)
+    } else {
+        turn(m, places, words, q, r, level)
+    }
+}
