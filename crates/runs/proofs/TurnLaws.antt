@@ -71,12 +71,12 @@ module _ (level : ℕ) (b : Bank) (q : Cache) (m : Memory) (x : List ℕ) (w : L
   pub turn-long : (length y ≡ 201) × (length v ≡ 200)
   turn-long = still-long 79 (step level (cpu b q)) (stepped (cpu a p) z) m x w k y v (step-bounded level (cpu b q)) (omega arith) long x₀ ex e
 
-  pub turn-taken : (user : Bool) → user ≡ isUser b → (d : Bank) → Made a d (λ c. counted (word b config) (not user) z c)
+  pub turn-taken : (d : Bank) → Made a d (λ c. counted (word b config) (not (isUser b)) z c)
       → (t : Turn) → t ≡ unlessLost (holdsStack (cpu d p)) (board (cpu b q) (undo (journal y v) k)) (goes (board (cpu d p) k))
       → t ≡ turn level (board (cpu b q) m)
   unfolding turn
-  turn-taken user eu d ed t h =
-      judged s (cpu d p) after (undo (journal y v) k) t (λ c. goes (board c k)) (ed p ∙ ap (λ (n : Bool). counted (word b config) (not n) z (cpu a p)) eu)
+  turn-taken d ed t h =
+      judged s (cpu d p) after (undo (journal y v) k) t (λ c. goes (board c k)) (ed p)
       (put-back 79 (step level (cpu b q)) (stepped (cpu a p) z) m x w k y v (step-bounded level (cpu b q)) (omega arith) long x₀ ex e) h
       ∙ ap (λ (l : Bool). unlessLost l s (goes (board after k))) (holds-counted (word b config) (not (isUser b)) z (cpu a p))
       ∙ ap (λ (g : Gave Memory Stepped). afterStep s g) (plainly (step level (cpu b q)) (stepped (cpu a p) z) (journaled m x₀ w) (journaled k y v) e)
@@ -176,9 +176,9 @@ module _ (level : ℕ) (b : Bank) (q : Cache) (m : Memory) (i : Bank) (ei : Made
 
       -- finished: d is the bank with its trace, o with the timers too
       pub confined-done : r < 3 → (j : ℕ) → j ≡ r % 2 ^ 32 → (z : Bool) → z ≡ tracesAt (word i psw) (tracedFrom j) → (d : Bank) → Made a d (λ c. traceFalls z c)
-          → (user : Bool) → user ≡ isUser b → (o : Bank) → Made d o (λ c. counted (word b config) (not user) true c)
+          → (o : Bank) → Made d o (λ c. counted (word b config) (not (isUser b)) true c)
           → t ≡ unlessLost (holdsStack (cpu o p)) (board (cpu b q) (undo (journal y v) k)) (goes (board (cpu o p) k)) → t ≡ confinedTurn level s
-      confined-done h j ej z ez d ed user eu o eo f =
+      confined-done h j ej z ez d ed o eo f =
           judged s (cpu o p) after (undo (journal y v) k) t (λ c. goes (board c k)) timed-as undone-is f
           ∙ ap (λ (l : Bool). unlessLost l s (goes (board after k))) (holds-counted (word b config) (not (isUser b)) true (traceFalls traces (cpu a p)) ∙ holds-traced traces (cpu a p))
           ∙ sym (turn-is ∙ ap (λ (l : Out Tried). afterTry s (cpu i q) l k) (answers-class r (tracedFrom r) a p refl h))
@@ -194,8 +194,7 @@ module _ (level : ℕ) (b : Bank) (q : Cache) (m : Memory) (i : Bank) (ei : Made
 
           timed-as : cpu o p ≡ after
           timed-as =
-              eo p ∙ ap (λ (l : Bool). counted (word b config) (not l) true (cpu d p)) eu
-              ∙ ap (λ (c : Cpu). counted (word b config) (not (isUser b)) true c) (ed p ∙ ap (λ (l : Bool). traceFalls l (cpu a p)) (ez ∙ ap (λ (l : ℕ). tracesAt (word i psw) (tracedFrom l)) whole))
+              eo p ∙ ap (λ (c : Cpu). counted (word b config) (not (isUser b)) true c) (ed p ∙ ap (λ (l : Bool). traceFalls l (cpu a p)) (ez ∙ ap (λ (l : ℕ). tracesAt (word i psw) (tracedFrom l)) whole))
 
 -- ---- either kind
 

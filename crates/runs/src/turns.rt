@@ -13,10 +13,14 @@ use memory::answers::low32;
 use rows::tracing::traces_at;
 use steps::stepping::step;
 ghost use mathlib.Core.Path.{_≡_};
+ghost use mathlib.Core.Bool.{not};
 ghost use Prim.Native.Nat.{_%_};
 ghost use lib.ListN.{length};
 ghost use Rattle.program.specs.Journal.{journal, undo as undoOf};
-ghost use Rattle.machine.specs.Status.{cpu};
+ghost use Rattle.machine.specs.Registers.{word, config};
+ghost use Rattle.machine.specs.Cache.{Cache};
+ghost use Rattle.machine.specs.Status.{cpu, isUser};
+ghost use Rattle.step.specs.Timers.{counted as countedOf};
 ghost use Rattle.step.specs.Step.{holdsStack};
 ghost use Rattle.run.specs.Run.{board, unlessLost, turn as turnFor, confinedTurn, turnOf};
 ghost use Rattle.runs.specs.Code.{turned};
@@ -43,6 +47,13 @@ fn judge(
     0x1_0000_0004
 }
 
+// The timers, by the CONFIG and the level that the turn began with.
+fn count_turn(r: &mut [u32; 17], bank: &[u32; 17], completed: bool)
+    ensures { λ z. ⌜ ((q : Cache) → cpu (now (r .exit)) q ≡ countedOf (word (now (bank .entry)) config) (not (isUser (now (bank .entry)))) completed (cpu (now (r .entry)) q)) ⌝ }
+{
+    counted(r, bank[0], !is_user(bank), completed);
+}
+
 // Kind 03: events are taken.
 fn turn(
     m: &mut [u8],
@@ -59,7 +70,7 @@ fn turn(
     let cache = *q;
     begin(places);
     let completed = step(m, places, words, q, r, level);
-    counted(r, bank[0], !is_user(&bank), completed);
+    count_turn(r, &bank, completed);
     judge(m, places, words, q, r, &bank, &cache, 0)
 }
 
@@ -107,12 +118,12 @@ fn confined_turn(
         return judge(m, places, words, q, r, &bank, &cache, 0x2_0000_0021);
     }
     trace_falls(r, traces_at(p, low32(x)));
-    counted(r, bank[0], !is_user(&bank), true);
+    count_turn(r, &bank, true);
     judge(m, places, words, q, r, &bank, &cache, 0)
 }
 
 // A turn of either kind.
-pub fn take_turn(
+pub(crate) fn take_turn(
     m: &mut [u8],
     places: &mut [u32; 201],
     words: &mut [[u8; 4]; 200],
