@@ -1,0 +1,6 @@
+pub mod BlockLaws
+pub mod LineLaws
+pub mod StreamLaws
+pub mod RoomLaws
+mod TellLaws
+mod TurnLaws

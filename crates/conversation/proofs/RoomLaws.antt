@@ -1,0 +1,97 @@
+-- No answer is left out where the buffer has thirteen bytes for each byte of a block.
+-- Assumes nothing.
+use mathlib.Core.Path.{_≡_, refl, sym, ap, _∙_}
+use mathlib.Core.Bool.{true, false}
+use mathlib.Core.List.{List, [], _∷_}
+use Prim.Native.Nat.{ℕ, zero, suc, _+_, _-_, _*_, _≤_}
+use native.Mathlib.Nat.{add-assoc, add-zero}
+use native.Mathlib.Omega.{arith}
+use lib.ListN.{length, length-append}
+use lib.Dec.{eqb}
+use Rattle.laws.proofs.Cases.{by-test}
+use Rattle.run.specs.Run.{Board}
+use Rattle.machine.specs.Registers.{setRegister}
+use Rattle.lines.specs.declared.Frame.{Frame}
+use Rattle.lines.specs.declared.Frame.the-variants.{Set, Store, Run, Confined, Bad}
+use Rattle.lines.specs.Lines.{isLength, frameOf}
+use Rattle.lines.specs.Stores.{storeOf}
+use Rattle.lines.specs.Answers.{Output, output, written, printed}
+use Rattle.lines.proofs.FrameLaws.{least, bad-length}
+use Rattle.lines.proofs.AnswerLaws.{length-written, written-on, fits}
+use Rattle.conversation.specs.Conversation.{Answered, unlessDone, lineAnswer, answerOf, next, conversation}
+use Rattle.conversation.specs.Code.{Desk, desk}
+use Rattle.conversation.specs.Blocks.{ontoEnded, endedLines, unended, toldAll, lastOf, talked, blockTold}
+
+-- ---- what a line prints at most
+
+unless-short : (n r : ℕ) → length (unlessDone n r) ≤ 13
+unless-short n zero = omega arith
+unless-short n (suc r) = omega arith
+
+frame-short : (n : ℕ) (s : List ℕ) (b : Board) (f : Frame) → length (answerOf n s b f .printed) ≤ 31
+unfolding answerOf
+frame-short n s b (Set p v) = omega (arith, unless-short n (setRegister (b .cpu .bank) p v .refusal))
+frame-short n s b (Store a) = omega (arith, unless-short n (storeOf s (b .memory) a .refusal))
+frame-short n s b (Run k l) = omega arith
+frame-short n s b (Confined k l) = omega arith
+frame-short n s b Bad = omega arith
+
+bad-short : (n : ℕ) (s : List ℕ) (b : Board) → length (answerOf n s b Bad .printed) ≤ 13
+unfolding answerOf
+bad-short n s b = omega arith
+
+answer-short : (n : ℕ) (s : List ℕ) (b : Board) → length (lineAnswer n s b .printed) ≤ suc (length s) * 13
+answer-short n s b =
+    by-test (isLength (length s))
+    (λ h. omega (arith, frame-short n s b (frameOf s), least (length s) true (sym h) refl))
+    (λ h. let e = bad-length s false (sym h) refl in
+    rw (sym e) (omega (arith, bad-short n s b)))
+
+-- the room that lines need, their newlines counted
+room : List (List ℕ) → ℕ
+room [] = 0
+room (s ∷ t) = suc (length s) * 13 + room t
+
+-- ---- lines one after the other
+
+-- the desk after a conversation
+abbrev talkedOver : Answered → List ℕ → ℕ → Desk
+talkedOver a o p = desk (a .board) (output (written o p (a .printed)) (p + length (a .printed)))
+
+roomy : (l : List (List ℕ)) (n : ℕ) (b : Board) (o : List ℕ) (p : ℕ) → p + room l ≤ length o
+    → toldAll n l (desk b (output o p)) ≡ talkedOver (conversation n l b) o p
+unfolding toldAll conversation room
+roomy [] n b o p h = (λ i. desk b (output o (sym (add-zero p) i)))
+roomy (s ∷ l) n b o p h =
+    let a = lineAnswer n s b in
+    let t = a .printed in
+    let w = conversation (next n) l (a .board) .printed in
+    let k = answer-short n s b in
+    let fit : printed t (output o p) ≡ output (written o p t) (p + length t) =
+    sym (fits t o p (written o p t) (length t) refl (omega arith) refl) in
+    ap (λ (x : Output). toldAll (next n) l (desk (a .board) x)) fit
+    ∙ roomy l (next n) (a .board) (written o p t) (p + length t) (rw (length-written t o p) (omega arith))
+    ∙ (λ i. desk (conversation (next n) l (a .board) .board)
+    (output (written-on t w o p i) ((add-assoc p (length t) (length w) ∙ ap (λ (x : ℕ). p + x) (sym (length-append t w))) i)))
+
+room-onto : (b : ℕ) (l : List (List ℕ)) → room (ontoEnded b l) ≤ 13 + room l
+unfolding room
+room-onto b [] = omega arith
+room-onto b (s ∷ l) = omega arith
+
+room-ended : (t : List ℕ) → room (endedLines t) ≤ length t * 13
+unfolding endedLines room
+room-ended [] = omega arith
+room-ended (b ∷ t) =
+    by-test (eqb b 10)
+    (λ e. rw e (omega (arith, room-ended t)))
+    (λ e. rw e (omega (arith, room-ended t, room-onto b (endedLines t))))
+
+-- ---- a block
+
+pub block-printed : (n : ℕ) (t : List ℕ) (b : Board) (o : List ℕ) → length t * 13 ≤ length o
+    → blockTold n t (desk b (output o 0))
+    ≡ talked (talkedOver (conversation (next n) (endedLines t) b) o 0) (lastOf n (endedLines t)) (length t - length (unended t))
+block-printed n t b o h =
+    ap (λ (d : Desk). talked d (lastOf n (endedLines t)) (length t - length (unended t)))
+    (roomy (endedLines t) (next n) b o 0 (omega (arith, room-ended t)))

@@ -1,0 +1,103 @@
+-- In whatever blocks the input comes, the same is printed.
+-- Assumes nothing.
+use mathlib.Core.Path.{_≡_, refl, sym, ap, _∙_}
+use mathlib.Core.List.{List, [], _∷_, _++_, append-assoc, append-nil}
+use Prim.Native.Nat.{ℕ, zero, suc, _+_, _≤_, _<_}
+use native.Mathlib.Omega.{arith}
+use lib.ListN.{length, take, length-append}
+use lib.Seq.{take-all, length-take-le}
+use lib.Dec.{leb, eqb}
+use borrow.Author.Tests.{leb-true, leb-false}
+use Rattle.laws.proofs.Cases.{by-test}
+use Rattle.run.specs.Run.{Board}
+use Rattle.lines.proofs.FrameLaws.{too-long}
+use Rattle.conversation.specs.Conversation.{Answered, lineAnswer, answerOf, after, next, conversation, linesOf, startBoard, boardProgram}
+use Rattle.conversation.specs.Blocks.{newlineAt, endedLines, unended, lastOf}
+use Rattle.conversation.specs.Stream.{lastLine, streamed, whole}
+use Rattle.conversation.proofs.LineLaws.{Plain, lines-on, lines-split, unended-plain}
+
+-- ---- lines after lines
+
+pub conversed : (n : ℕ) (s t : List (List ℕ)) (b : Board)
+    → conversation (next n) (s ++ t) b .printed
+    ≡ conversation (next n) s b .printed ++ conversation (next (lastOf n s)) t (conversation (next n) s b .board) .printed
+unfolding conversation lastOf
+conversed n [] t b = refl
+conversed n (l ∷ s) t b =
+    let a = lineAnswer (next n) l b in
+    ap (λ (x : List ℕ). a .printed ++ x) (conversed (next n) s t (a .board))
+    ∙ sym
+    (append-assoc (a .printed) (conversation (next (next n)) s (a .board) .printed)
+    (conversation (next (lastOf (next n) s)) t (conversation (next (next n)) s (a .board) .board) .printed))
+
+-- ---- a long line cut to 75 bytes
+
+long-answer : (n : ℕ) (s t : List ℕ) (b : Board) → 75 ≤ length s → 75 ≤ length t → lineAnswer n s b ≡ lineAnswer n t b
+unfolding answerOf
+long-answer n s t b g h =
+    ap (answerOf n s b) (sym (too-long s g)) ∙ ap (answerOf n t b) (too-long t h)
+
+first-line : (n : ℕ) (s t : List ℕ) (r : List (List ℕ)) (b : Board) → lineAnswer n s b ≡ lineAnswer n t b
+    → conversation n (s ∷ r) b ≡ conversation n (t ∷ r) b
+unfolding conversation
+first-line n s t r b e = ap (λ (a : Answered). after (a .printed) (conversation (next n) r (a .board))) e
+
+-- a cut line is some line of 75 bytes or more
+both : (n : ℕ) (c d u : List ℕ) (b : Board) → Plain c → Plain d → 75 ≤ length c → 75 ≤ length d
+    → conversation n (linesOf (c ++ u)) b ≡ conversation n (linesOf (d ++ u)) b
+both n [] d u b p q g h = absurd (omega arith)
+both n (x ∷ c) [] u b p q g h = absurd (omega arith)
+both n (x ∷ c) (y ∷ d) u b p q g h =
+    let v = take (newlineAt u) u in
+    ap (λ (l : List (List ℕ)). conversation n l b) (lines-on x c u p)
+    ∙ first-line n ((x ∷ c) ++ v) ((y ∷ d) ++ v) _ b
+    (long-answer n ((x ∷ c) ++ v) ((y ∷ d) ++ v) b
+    (omega (arith, length-append (x ∷ c) v)) (omega (arith, length-append (y ∷ d) v)))
+    ∙ sym (ap (λ (l : List (List ℕ)). conversation n l b) (lines-on y d u q))
+
+plain-take : (k : ℕ) (c : List ℕ) → Plain c → Plain (take k c)
+unfolding newlineAt
+plain-take zero c p = omega arith
+plain-take (suc k) [] p = omega arith
+plain-take (suc k) (b ∷ c) p =
+    by-test (eqb b 10)
+    (λ e. absurd (omega (arith, rw e at p)))
+    (λ e. let g : length c ≤ newlineAt c = omega (arith, rw e at p) in
+    rw e (omega (arith, plain-take k c g)))
+
+pub cut : (n : ℕ) (c u : List ℕ) (b : Board) → Plain c
+    → conversation n (linesOf (take 75 c ++ u)) b ≡ conversation n (linesOf (c ++ u)) b
+cut n c u b p =
+    by-test (leb (length c) 75)
+    (λ h. ap (λ (x : List ℕ). conversation n (linesOf (x ++ u)) b) (take-all 75 c (leb-true (length c) 75 h)))
+    (λ h. let g : 75 < length c = leb-false (length c) 75 h in
+    let l : length (take 75 c) ≡ 75 = length-take-le 75 c (omega arith) in
+    both n (take 75 c) c u b (plain-take 75 c p) p (omega arith) (omega arith))
+
+-- ---- the end of input
+
+ended : (c : List ℕ) → Plain c → linesOf (c ++ []) ≡ lastLine c
+unfolding newlineAt linesOf
+ended [] p = refl
+ended (b ∷ c) p = lines-on b c [] p ∙ (λ i. append-nil (b ∷ c) i ∷ [])
+
+-- ---- blocks
+
+pub streamed-is : (xs : List (List ℕ)) (n : ℕ) (c : List ℕ) (b : Board) → Plain c
+    → streamed n (take 75 c) xs b ≡ conversation (next n) (linesOf (c ++ whole xs)) b .printed
+unfolding streamed
+streamed-is [] n c b p =
+    sym (ap (λ (l : List (List ℕ)). conversation (next n) l b .printed) (ended (take 75 c) (plain-take 75 c p)))
+    ∙ ap (λ (a : Answered). a .printed) (cut (next n) c [] b p)
+streamed-is (x ∷ xs) n c b p =
+    let t = take 75 c ++ x in
+    let a = conversation (next n) (endedLines t) b in
+    ap (λ (w : List ℕ). a .printed ++ w) (streamed-is xs (lastOf n (endedLines t)) (unended t) (a .board) (unended-plain t))
+    ∙ sym (conversed n (endedLines t) (linesOf (unended t ++ whole xs)) b)
+    ∙ sym (ap (λ (l : List (List ℕ)). conversation (next n) l b .printed) (lines-split t (whole xs)))
+    ∙ ap (λ (l : List ℕ). conversation (next n) (linesOf l) b .printed) (append-assoc (take 75 c) x (whole xs))
+    ∙ ap (λ (a : Answered). a .printed) (cut (next n) c (x ++ whole xs) b p)
+
+-- the board program's answers, in whatever blocks its input comes
+pub stream : (xs : List (List ℕ)) → streamed 0 [] xs startBoard ≡ boardProgram (whole xs)
+stream xs = streamed-is xs 0 [] startBoard (omega arith)

@@ -1,0 +1,4 @@
+pub mod AnswerLaws
+mod DigitLaws
+pub mod FrameLaws
+mod StoreLaws

@@ -1,0 +1,51 @@
+use lib.ListN.{length}
+use native.Mathlib.Omega.{arith}
+use Rattle.lines.proofs.FrameLaws.{least, bad-length, bad-digit, is-store, is-twelve, bad-kind}
+use borrow.Author.Needs.{needs}
+use Rattle.lines.proofs.frames.parse.Statement.{statement}
+use Rattle.lines.proofs.frames.parse.Tie as tie
+
+is-length-requires : tie.Need-is-length-requires
+is-length-requires c κs = search needs
+
+all-digits-requires : tie.Need-all-digits-requires
+all-digits-requires c κs = search needs
+
+byte-at-requires : tie.Need-byte-at-requires
+byte-at-requires c κs = omega (arith, least (length (c .before .before .before .before .before .args .line .now)) _ (c .before .before .before .is-length .ensures) (c .before .before .if1 .taken))
+
+word-at-requires : tie.Need-word-at-requires
+word-at-requires c κs = omega (arith, least (length (c .before .before .before .before .before .before .before .args .line .now)) _ (c .before .before .before .before .before .is-length .ensures) (c .before .before .before .before .if1 .taken))
+
+returns : tie.Need-returns
+returns c = search (needs, is-store)
+
+of-twelve-requires : tie.Need-of-twelve-requires
+of-twelve-requires c κs = search needs
+
+returns-2 : tie.Need-returns-2
+returns-2 c = search (needs, is-twelve)
+
+returns-3 : tie.Need-returns-3
+returns-3 c = search (needs, bad-kind)
+
+returns-4 : tie.Need-returns-4
+returns-4 c = search (needs, bad-digit)
+
+returns-5 : tie.Need-returns-5
+returns-5 c = search (needs, bad-length)
+
+pub parse-spec : {M : Type 1} → statement M
+parse-spec =
+    tie.close
+    (tie.spec
+    is-length-requires
+    all-digits-requires
+    byte-at-requires
+    word-at-requires
+    returns
+    of-twelve-requires
+    returns-2
+    returns-3
+    returns-4
+    returns-5)

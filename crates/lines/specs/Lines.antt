@@ -1,0 +1,32 @@
+-- What a line of the board program says (document 01, "The board program and its frames").
+-- Assumes nothing.
+use Prim.Native.Nat.{ℕ, _%_}
+use mathlib.Core.Bool.{Bool, cond, _&&_}
+use mathlib.Core.List.{List}
+use lib.ListN.{length}
+use lib.Dec.{leb, eqb}
+use Rattle.lines.specs.declared.Frame.{Frame}
+use Rattle.lines.specs.declared.Frame.the-variants.{Set, Store, Run, Confined, Bad}
+use Rattle.lines.specs.Digits.{allDigits, number}
+
+-- refusal 7, "bad line": wrong digit, length or kind; empty line
+abbrev pub badLine : ℕ
+badLine = 7
+
+-- a frame is 12 to 74 digits in even number
+abbrev pub isLength : ℕ → Bool
+isLength n = leb 12 n && leb n 74 && eqb (n % 2) 0
+
+-- kinds of exactly 12 digits. 01: register and word; 03 and 04: budget and interrupt level
+abbrev pub ofTwelve : ℕ → List ℕ → Frame
+ofTwelve kind s =
+    cond (eqb kind 1) (Set (number 2 s 2) (number 8 s 4))
+    (cond (eqb kind 3) (Run (number 8 s 2) (number 2 s 10))
+    (cond (eqb kind 4) (Confined (number 8 s 2) (number 2 s 10)) Bad))
+
+-- 02: address and 1 to 32 bytes
+abbrev pub ofKind : ℕ → List ℕ → Frame
+ofKind kind s = cond (eqb kind 2) (Store (number 8 s 2)) (cond (eqb (length s) 12) (ofTwelve kind s) Bad)
+
+unfoldable pub frameOf : List ℕ → Frame
+frameOf s = cond (isLength (length s) && allDigits s) (ofKind (number 2 s 0) s) Bad
