@@ -1,0 +1,53 @@
+-- Demand 3 as a statement about the code: what `runs::running::run` answers to every list of confined runs, by its contract.
+-- Assumes nothing.
+use Prim.Native.Nat.{ℕ}
+use mathlib.Core.Path.{_≡_}
+use mathlib.Core.Bool.{true}
+use mathlib.Core.List.{List, [], _∷_}
+use Rattle.memory.specs.Bytes.{Memory}
+use Rattle.machine.specs.declared.Machine.{Machine}
+use Rattle.machine.specs.Record.{cpuOf}
+use Rattle.run.specs.Run.{board, run}
+use Rattle.runs.specs.declared.running.Ran.{Ran}
+use Rattle.runs.specs.Code.{endedOf}
+use Rattle.isolation.specs.Sealed.{Agree, Kept}
+use Rattle.isolation.specs.Course.{Order}
+use Rattle.isolation.specs.Isolation.{Apart}
+
+-- the contract of the code at a confined run: the answer x, with the memory l after it, of a machine on the memory m
+abbrev pub Answers : Machine → Memory → Order → Ran → Memory → Type 0
+Answers begun m o x l = endedOf x l ≡ run true (o .budget) (o .level) (board (cpuOf begun) m)
+
+-- an answer with the memory that the run left
+pub record Outcome : Type 0 where
+  pub answer : Ran
+  pub memory : Memory
+
+-- the outcomes of a list of runs: each later one gets the machine and the memory that the last one left
+abbrev pub Answered : Machine → Memory → List Order → List Outcome → Type 0
+Answered begun m [] [] = Unit {0}
+Answered begun m [] (x ∷ xs) = ⊥
+Answered begun m (o ∷ os) [] = ⊥
+Answered begun m (o ∷ os) (x ∷ xs) = Answers begun m o (x .answer) (x .memory) × Answered (x .answer .machine) (x .memory) os xs
+
+-- two outcomes tell nothing of the hidden pages, and each side's hidden pages hold the bytes of m and of n
+pub record SameOutcome (Hidden : ℕ → Type 0) (m n : Memory) (x y : Outcome) : Type 0 where
+  pub steps : x .answer .steps ≡ y .answer .steps
+  pub stop : x .answer .stop ≡ y .answer .stop
+  pub code : x .answer .code ≡ y .answer .code
+  pub registers : cpuOf (x .answer .machine) ≡ cpuOf (y .answer .machine)
+  pub others : Agree Hidden (x .memory) (y .memory)
+  pub first-a : Kept Hidden m (x .memory)
+  pub first-b : Kept Hidden n (y .memory)
+
+abbrev pub SameOutcomes : (ℕ → Type 0) → Memory → Memory → List Outcome → List Outcome → Type 0
+SameOutcomes Hidden m n [] [] = Unit {0}
+SameOutcomes Hidden m n [] (y ∷ ys) = ⊥
+SameOutcomes Hidden m n (x ∷ xs) [] = ⊥
+SameOutcomes Hidden m n (x ∷ xs) (y ∷ ys) = SameOutcome Hidden m n x y × SameOutcomes Hidden m n xs ys
+
+-- for every two machines and memories that are equal but for hidden pages, and every list of confined runs
+abbrev pub Confinement : Type 1
+Confinement =
+    (Hidden : ℕ → Type 0) (a b : Machine) (m n : Memory) → Apart Hidden (board (cpuOf a) m) (board (cpuOf b) n)
+    → (os : List Order) (xs ys : List Outcome) → Answered a m os xs → Answered b n os ys → SameOutcomes Hidden m n xs ys
