@@ -1,9 +1,9 @@
 -- The P cases of document 01 ("Checked by hand"): one table of tests over the definitions, with one proof by computation.
--- The two interrupt rows (PSW 0x00017630; PSW 0 with ISP and SHAD 0x1000) join the table when the machine exists.
 -- Assumes nothing.
 use Prim.Native.Nat.{ℕ}
 use mathlib.Core.Bool.{Bool, true, false, not, _&&_, Bool·beq}
 use mathlib.Core.List.{List, [], _∷_}
+use lib.ListN.{replicate}
 use lib.Dec.{T, eqb}
 use Rattle.word.specs.declared.Sum.{Sum}
 use Rattle.word.specs.declared.Quotient.{Quotient}
@@ -13,6 +13,16 @@ use Rattle.word.specs.Products.{mulOf, udivOf, uremOf, divOf}
 use Rattle.word.specs.Shifts.{shlOf, shrOf, ushrOf}
 use Rattle.word.specs.Tags.{taggedAddOf, taggedSubOf}
 use Rattle.word.specs.Widths.{truncateOf, zeroExtendOf, signExtendOf}
+use Rattle.memory.specs.Bytes.{Memory, number, load, storeAnswer, storeMemory}
+use Rattle.mmu.specs.Walk.{route, walk, walkFrom, segment, segmentOf, nonpagedOf}
+use Rattle.program.specs.Access.{Gave, touch, follow, access}
+use Rattle.program.specs.Program.{interpret, after, plain}
+use Rattle.machine.specs.Registers.{Bank, isp, psw}
+use Rattle.machine.specs.Status.{Cpu, cpu, reg}
+use Rattle.machine.specs.Record.{zeroCache}
+use Rattle.access.specs.Parts.{Out, ok, stop, onward, _>>=_, frameRequest}
+use Rattle.access.specs.Data.{readFrame, writeFrame}
+use Rattle.exec.specs.Frames.{interruptSequence, pushPair, throughVector}
 
 -- a result with this value, C and V
 abbrev pub sum : Sum → ℕ → Bool → Bool → Bool
@@ -40,6 +50,25 @@ stored t value carry overflow =
 -- a test at every C and V that there may be before
 abbrev pub whatever : (Bool → Bool → Bool) → Bool
 whatever test = test false false && test false true && test true false && test true true
+
+-- a page whose first word is a segment entry, nonpaged, valid, writable and of one page; its other bytes are 0xEE
+abbrev pub onePage : Memory
+onePage = 0 ∷ 0 ∷ 0 ∷ 0x0F ∷ replicate 4092 0xEE
+
+-- PC 0x100, ISP and SHAD 0x1000, and a PSW; every other register 0
+abbrev pub interrupted : ℕ → Cpu
+interrupted p = cpu (0 ∷ 0 ∷ 0x3B ∷ 0x1000 ∷ 0 ∷ 0x100 ∷ p ∷ 0x1000 ∷ 0 ∷ 0 ∷ 0 ∷ 0 ∷ 0 ∷ 0 ∷ 0 ∷ 0 ∷ 0 ∷ []) zeroCache
+
+-- what an interrupt leaves
+abbrev pub leaves : (Cpu → Memory → Bool) → Gave Memory (Out Cpu) → Bool
+leaves test g = go (g .out)
+  where
+    go : Out Cpu → Bool
+    go (ok c) = test c (g .world)
+    go (stop e c) = false
+
+abbrev pub interrupt : ℕ → Gave Memory (Out Cpu)
+interrupt p = interpret plain (interruptSequence (interrupted p) 16) onePage
 
 abbrev pub all : List Bool → Bool
 all [] = true
@@ -70,6 +99,10 @@ cases =
     -- "USHR 0x80000000 by 32: unchanged; by 33: 0x40000000."
     ∷ eqb (ushrOf 0x8000_0000 32) 0x8000_0000
     ∷ eqb (ushrOf 0x8000_0000 33) 0x4000_0000
+    -- "interrupt with PSW 0x00017630 leaves 0x00010000."
+    ∷ leaves (λ c m. eqb (reg c psw) 0x1_0000) (interrupt 0x1_7630)
+    -- "interrupt with PSW 0, ISP and SHAD 0x1000 stores PC at 0xFF8, PSW at 0xFFC and leaves ISP 0xFF0."
+    ∷ leaves (λ c m. eqb (number 4 m 0xFF8) 0x100 && eqb (number 4 m 0xFFC) 0 && eqb (reg c isp) 0xFF0) (interrupt 0)
     -- The manual's own sentences.
     -- 1.8.1, MUL: C on the product of the operands as unsigned values, V as signed values
     ∷ sum (mulOf 0xFFFF_FFFF 0xFFFF_FFFF) 1 true false
@@ -101,5 +134,5 @@ cases =
     ∷ []
 
 pub checked : T (all cases)
-unfolding cases addOf subOf mulOf divOf taggedAddOf taggedSubOf
+unfolding cases addOf subOf mulOf divOf taggedAddOf taggedSubOf interpret after onward _>>=_ interruptSequence pushPair throughVector writeFrame readFrame frameRequest access follow touch load storeAnswer storeMemory route walk walkFrom segment segmentOf nonpagedOf
 checked = tt
