@@ -9,6 +9,7 @@ use machine::status::is_user;
 use machine::status::is_virtual;
 use memory::places::whole_pages;
 ghost use mathlib.Core.Path.{_≡_};
+ghost use mathlib.Core.Bool.{false};
 ghost use Prim.Native.Nat.{_%_};
 ghost use lib.ListN.{length};
 ghost use Rattle.machine.specs.Status.{cpu};
@@ -110,4 +111,11 @@ pub fn run(m: &mut [u8], begun: Machine, confined: bool, budget: u32, level: u32
         stop: x.stop,
         code: x.code,
     }
+}
+
+// One step of a machine on a lent memory, events taken: a run of budget 1.
+pub fn step(m: &mut [u8], begun: Machine, level: u32) -> Ran
+    ensures { λ x. ⌜ endedOf x (now (m .exit)) ≡ runOf false 1 level (board (cpuOf begun) (now (m .entry))) ⌝ }
+{
+    run(m, begun, false, 1, level)
 }
