@@ -1,11 +1,12 @@
 -- What the code's answers say of a turn and of a run.
 -- Assumes nothing.
 use Prim.Native.Nat.{ℕ, _/_, _%_, _^_}
-use mathlib.Core.Bool.{cond}
+use mathlib.Core.Bool.{false, cond}
 use lib.Dec.{eqb}
 use Rattle.memory.specs.Bytes.{Memory}
+use Rattle.machine.specs.declared.Machine.{Machine}
 use Rattle.machine.specs.Record.{cpuOf}
-use Rattle.run.specs.Run.{Board, board, Turn, goes, ends, Ended, ended}
+use Rattle.run.specs.Run.{Board, board, Turn, goes, ends, Ended, ended, run}
 use Rattle.runs.specs.declared.running.Stopped.{Stopped}
 use Rattle.runs.specs.declared.running.Ran.{Ran}
 
@@ -20,3 +21,15 @@ stoppedAt x s = ended (x .steps) (x .stop) (x .code) s
 -- a run's answer with the memory that it left
 abbrev pub endedOf : Ran → Memory → Ended
 endedOf r m = ended (r .steps) (r .stop) (r .code) (board (cpuOf (r .machine)) m)
+
+-- one step, events taken: 0 or the refusal, and the board that it left
+pub record Advanced : Type 0 where
+  pub refusal : ℕ
+  pub left : Board
+
+abbrev pub advancedBy : ℕ → Machine → Memory → Advanced
+advancedBy r c m = record { refusal = r; left = board (cpuOf c) m }
+
+-- a run of budget 1: its code is 0 where the step is done
+abbrev pub oneStep : ℕ → Board → Advanced
+oneStep level s = record { refusal = run false 1 level s .code; left = run false 1 level s .left }

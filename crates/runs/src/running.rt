@@ -9,13 +9,12 @@ use machine::status::is_user;
 use machine::status::is_virtual;
 use memory::places::whole_pages;
 ghost use mathlib.Core.Path.{_≡_};
-ghost use mathlib.Core.Bool.{false};
 ghost use Prim.Native.Nat.{_%_};
 ghost use lib.ListN.{length};
 ghost use Rattle.machine.specs.Status.{cpu};
 ghost use Rattle.machine.specs.Record.{cpuOf};
 ghost use Rattle.run.specs.Run.{board, turnOf, advance as advanceOf, refusal as refusalOf, run as runOf};
-ghost use Rattle.runs.specs.Code.{stoppedAt, endedOf};
+ghost use Rattle.runs.specs.Code.{stoppedAt, endedOf, advancedBy, oneStep};
 
 // Steps done, the stop and its code.
 pub struct Stopped {
@@ -30,6 +29,12 @@ pub struct Ran {
     pub steps: u32,
     pub stop: u32,
     pub code: u32,
+}
+
+// The machine after one step; 0, or the refusal that left it as it was.
+pub struct Stepped {
+    pub machine: Machine,
+    pub refusal: u32,
 }
 
 // Turns until one stops or the budget is spent, which is looked at before any event.
@@ -114,8 +119,13 @@ pub fn run(m: &mut [u8], begun: Machine, confined: bool, budget: u32, level: u32
 }
 
 // One step of a machine on a lent memory, events taken: a run of budget 1.
-pub fn step(m: &mut [u8], begun: Machine, level: u32) -> Ran
-    ensures { λ x. ⌜ endedOf x (now (m .exit)) ≡ runOf false 1 level (board (cpuOf begun) (now (m .entry))) ⌝ }
+pub fn step(begun: Machine, m: &mut [u8], level: u32) -> Stepped
+    ensures { λ x. ⌜ advancedBy (x .refusal) (x .machine) (now (m .exit)) ≡ oneStep level (board (cpuOf begun) (now (m .entry))) ⌝ }
 {
-    run(m, begun, false, 1, level)
+    let x = run(m, begun, false, 1, level);
+    let left = x.machine;
+    Stepped {
+        machine: left,
+        refusal: x.code,
+    }
 }
