@@ -51,7 +51,8 @@ fn judge(
 fn count_turn(r: &mut [u32; 17], bank: &[u32; 17], completed: bool)
     ensures { λ z. ⌜ ((q : Cache) → cpu (now (r .exit)) q ≡ countedOf (word (now (bank .entry)) config) (not (isUser (now (bank .entry)))) completed (cpu (now (r .entry)) q)) ⌝ }
 {
-    counted(r, bank[0], !is_user(bank), completed);
+    let config = bank[0];
+    counted(r, config, !is_user(bank), completed);
 }
 
 // Kind 03: events are taken.

@@ -7,8 +7,8 @@ use borrow.Author.Needs.{needs}
 use Rattle.runs.proofs.turns.count_turn.Statement.{statement}
 use Rattle.runs.proofs.turns.count_turn.Tie as tie
 
-element-copy-out-counted : tie.Need-element-copy-out-counted
-element-copy-out-counted c = search needs
+element-copy-out-config : tie.Need-element-copy-out-config
+element-copy-out-config c = search needs
 
 is-user-requires : tie.Need-is-user-requires
 is-user-requires c κs = search needs
@@ -21,4 +21,4 @@ returns c = λ q. c .counted .ensures q ∙ ap (λ (u : Bool). counted (word (c 
 
 pub count-turn-spec : {M : Type 1} → statement M
 count-turn-spec =
-    tie.close (tie.spec element-copy-out-counted is-user-requires counted-requires returns)
+    tie.close (tie.spec element-copy-out-config is-user-requires counted-requires returns)
