@@ -2,10 +2,10 @@ use mathlib.Core.Path.{_≡_}
 use Prim.Native.Nat.{_≤_}
 use lib.ListN.{length}
 use Rattle.conversation.proofs.BlockLaws.{rest-within}
-use Rattle.board.proofs.CarryLaws.{within-first}
+use Rattle.serving.proofs.CarryLaws.{within-first}
 use borrow.Author.Needs.{needs}
-use Rattle.board.proofs.main.Statement.{statement}
-use Rattle.board.proofs.main.Tie as tie
+use Rattle.serving.proofs.serve.Statement.{statement}
+use Rattle.serving.proofs.serve.Tie as tie
 
 abbrev Inv-loop : tie.InvT-loop
 Inv-loop memory₀ block₀ out₀ machine₀ last₀ have₀ turns₀ memory block out machine last have turns =
@@ -71,8 +71,8 @@ loop-again c = search needs
 returns-2 : tie.Need-returns-2 Inv-loop μ-loop
 returns-2 c = search needs
 
-pub main-spec : {M : Type 1} → statement M
-main-spec =
+pub serve-spec : {M : Type 1} → statement M
+serve-spec =
     tie.close
     (tie.spec
     Inv-loop

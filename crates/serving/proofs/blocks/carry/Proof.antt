@@ -1,8 +1,8 @@
 use Prim.Native.Nat.{_-_}
-use Rattle.board.proofs.CarryLaws.{Carrying, carrying-none, carrying-more, carrying-cut, carrying-all}
+use Rattle.serving.proofs.CarryLaws.{Carrying, carrying-none, carrying-more, carrying-cut, carrying-all}
 use borrow.Author.Needs.{needs}
-use Rattle.board.proofs.blocks.carry.Statement.{statement}
-use Rattle.board.proofs.blocks.carry.Tie as tie
+use Rattle.serving.proofs.blocks.carry.Statement.{statement}
+use Rattle.serving.proofs.blocks.carry.Tie as tie
 
 abbrev Inv-loop : tie.InvT-loop
 Inv-loop block₀ from end left k₀ block k = Carrying block₀ from left block k

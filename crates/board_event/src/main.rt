@@ -1,0 +1,4 @@
+// The board on interrupts, timers, traces, KCALL, KRET, unimplemented instructions and resets.
+fn main() {
+    serving::serve();
+}

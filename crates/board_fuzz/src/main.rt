@@ -1,0 +1,4 @@
+// The board on arbitrary registers and memory.
+fn main() {
+    serving::serve();
+}

@@ -1,0 +1,4 @@
+// The board on bad lines among good ones.
+fn main() {
+    serving::serve();
+}

@@ -1,0 +1,4 @@
+// The board on register operands under a CPU prefix.
+fn main() {
+    serving::serve();
+}

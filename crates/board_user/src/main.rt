@@ -1,0 +1,4 @@
+// The board on confined runs at user level with virtual addressing.
+fn main() {
+    serving::serve();
+}
