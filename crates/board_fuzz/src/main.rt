@@ -1,4 +1,0 @@
-// The board on arbitrary registers and memory.
-fn main() {
-    serving::serve();
-}

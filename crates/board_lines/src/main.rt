@@ -1,4 +1,0 @@
-// The board on bad lines among good ones.
-fn main() {
-    serving::serve();
-}
