@@ -121,11 +121,12 @@ class Steps(Conversation):
         self.text(DIGEST, text)
         self.summed = steps + 1 + 1 + 5 * ((past - first) // 4) + 1
 
-    def case(self, parcels, regime, at=TEXT, interrupt=7, frame=None, timers=(), more=0, written=None):
+    def case(self, parcels, regime, at=TEXT, interrupt=7, frame=None, stack=None, timers=(), more=0,
+             written=None):
         """One step of the instruction, then `more` single steps, each with its line, then the digest.
 
-        `frame` is what the interrupt stack holds, `timers` the two timers before the step, `written` the number of a register
-        that the instruction can write."""
+        `frame` is what the interrupt stack holds, `stack` another SP and MSP, `timers` the two timers before the step,
+        `written` the number of a register that the instruction can write."""
         config, psw, kind = regime
         if self.count % 32 == 0:
             self.template()
@@ -136,6 +137,9 @@ class Steps(Conversation):
         self.run(self.prepared)
         if frame:
             self.words(ISP, frame)
+        if stack:
+            for name, value in zip(('SP', 'MSP', 'SHAD'), (*stack, stack[0])):
+                self.register(name, value)
         for name, value in zip(('TIMER1', 'TIMER2'), timers):
             self.register(name, value)
         if not psw & ON_SP:
@@ -218,7 +222,7 @@ class Steps(Conversation):
         for row in ('KRET', 'CRET'):
             for frame in ((SP, SP + 64, ELSEWHERE, 0x10630), (SP - 32, SP, ELSEWHERE + 1, ON_SP),
                           (SP + 4, SP + 256, TEXT, 0xFFFFFFFF), (SP, SP + 272, TEXT, ON_SP), (SP, SP, TEXT, 0),
-                          (0x20000, 0x20010, TEXT, ON_SP)):
+                          (SP, SP + 64, TEXT, 0), (0x20000, 0x20010, TEXT, ON_SP)):
                 self.case(niladic(NILADIC[row]), regimes[self.count % len(regimes)], frame=frame)
 
     def monadics(self, regimes, modes):
@@ -287,9 +291,17 @@ class Steps(Conversation):
                 self.case(five(DYADIC['MOV'], ABSOLUTE, place, STACK, 4), regime)
                 self.case(five(DYADIC['MOV'], STACK, 4, ABSOLUTE, place), regime)
                 self.case(five(DYADIC['ADDI'], IMMEDIATE, 1, 0x2, place), regime)
+                self.case(five(DYADIC['MOV'], 0x1, place + 3, STACK, 4), regime)
                 self.case(five(DYADIC['DQM'], ABSOLUTE, place & ~15, ABSOLUTE, DATA), regime)
                 self.case(monadic(MONADIC['JMP'], ABSOLUTE, place), regime)
                 self.case(monadic(MONADIC['KCALL'], ABSOLUTE, place), regime)
+        # stacks in and at the edge of such pages: what ENTER flushes, CATCH fills, and the store checks of both
+        for stack in ((0xB020, 0xB020), (0xC020, 0xC040), (0xD020, 0xD020), (0xD000, 0xD010), (0xF020, 0xF020),
+                      (0xEFF0, 0xF010), (0xCFF0, 0xCFF0), (0x9FE0, 0xA010)):
+            for regime in (USERS[0], USERS[3], KERNEL[5]):
+                self.tables()
+                for parcels in (stacked('ENTER', -1), stacked('ENTER', -16), stacked('CATCH', 2)):
+                    self.case(parcels, regime, stack=stack)
         extended = [(EXTENSION | CACHE, VIRTUAL | USER | ON_SP, 4), (EXTENSION, VIRTUAL | ON_SP, 3)]
         for regime in [USERS[0], USERS[3], KERNEL[5]] + extended:
             for at in (0x9FFC, 0x9FFE, 0xA000, 0xB000, 0xC000, 0xD000, 0x20001200, 0x20009FFE):
