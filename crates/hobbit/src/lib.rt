@@ -1,0 +1,100 @@
+// The C interface: calls over memory and blocks of words that the caller lends (include/hobbit.h says what each does).
+use machine::Machine;
+use machine::assign::set_register;
+use machine::cache::quads;
+use machine::record::bank;
+use machine::record::machine_of;
+use machine::record::start;
+use runs::running::run;
+use runs::running::step;
+ghost use mathlib.Core.Path.{_≡_};
+ghost use Rattle.machine.specs.Registers.{startBank, setting, setRegister};
+ghost use Rattle.machine.specs.Cache.{quadsOf};
+ghost use Rattle.machine.specs.Status.{cpu};
+ghost use Rattle.machine.specs.Record.{cpuOf, zeroCache};
+ghost use Rattle.run.specs.Run.{board, run as runOf};
+ghost use Rattle.runs.specs.Code.{oneStep};
+ghost use Rattle.hobbit.specs.Blocks.{bankIn, machineIn, boardIn, answeredBy, advancedAs};
+
+// What an 83 line carries but PC and PSW, which are words of the registers.
+#[repr(C)]
+pub struct HobbitAnswer {
+    pub steps: u32,
+    pub stop: u32,
+    pub code: u32,
+}
+
+// The machine in two blocks.
+fn machine_in(registers: &[u32; 17], cache: &[u32; 64]) -> Machine
+    ensures { λ x. ⌜ x ≡ machineIn (now (registers .entry)) (now (cache .entry)) ⌝ }
+{
+    let q = quads(*cache);
+    machine_of(registers, &q)
+}
+
+// A run: kind 03, or confined, kind 04.
+#[no_mangle]
+pub extern "C" fn hobbit_run(
+    memory: &mut [u8],
+    registers: &mut [u32; 17],
+    cache: &mut [u32; 64],
+    confined: bool,
+    budget: u32,
+    level: u32,
+) -> HobbitAnswer
+    ensures { λ x. ⌜ answeredBy x (boardIn (now (registers .exit)) (now (cache .exit)) (now (memory .exit))) ≡ runOf confined budget level (board (cpuOf (machineIn (now (registers .entry)) (now (cache .entry)))) (now (memory .entry))) ⌝ }
+{
+    let begun = machine_in(registers, cache);
+    let x = run(memory, begun, confined, budget, level);
+    let left = x.machine;
+    let words = left.cache;
+    *registers = bank(left);
+    *cache = words;
+    HobbitAnswer {
+        steps: x.steps,
+        stop: x.stop,
+        code: x.code,
+    }
+}
+
+// One step, events taken: 0, or the refusal that left all as it was.
+#[no_mangle]
+pub extern "C" fn hobbit_step(
+    memory: &mut [u8],
+    registers: &mut [u32; 17],
+    cache: &mut [u32; 64],
+    level: u32,
+) -> u32
+    ensures { λ x. ⌜ advancedAs x (boardIn (now (registers .exit)) (now (cache .exit)) (now (memory .exit))) ≡ oneStep level (board (cpuOf (machineIn (now (registers .entry)) (now (cache .entry)))) (now (memory .entry))) ⌝ }
+{
+    let begun = machine_in(registers, cache);
+    let x = step(begun, memory, level);
+    let left = x.machine;
+    let words = left.cache;
+    *registers = bank(left);
+    *cache = words;
+    x.refusal
+}
+
+// The blocks at the start: ID 0x0000003B, every other word 0.
+#[no_mangle]
+pub extern "C" fn hobbit_start(registers: &mut [u32; 17], cache: &mut [u32; 64])
+    ensures { λ _. ⌜ cpu (now (registers .exit)) (quadsOf (now (cache .exit))) ≡ cpu startBank zeroCache ⌝ }
+{
+    let m = start();
+    let words = m.cache;
+    *registers = bank(m);
+    *cache = words;
+}
+
+// The register at a place of Table 1-1 set to a word: 0, or refusal 2 and the registers as they were.
+#[no_mangle]
+pub extern "C" fn hobbit_set(registers: &mut [u32; 17], place: u32, value: u32) -> u32
+    ensures { λ x. ⌜ setting x (now (registers .exit)) ≡ setRegister (bankIn (now (registers .entry))) place value ⌝ }
+{
+    let zeros = [0u32; 64];
+    let s = set_register(machine_in(registers, &zeros), place, value);
+    let left = s.machine;
+    *registers = bank(left);
+    s.refusal
+}
