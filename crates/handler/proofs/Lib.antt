@@ -1,3 +1,4 @@
 pub mod Laws
 pub mod AccessLaws
+pub mod QuadLaws
 pub mod UndoLaws

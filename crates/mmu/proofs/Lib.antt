@@ -1,3 +1,4 @@
+pub mod Beside
 mod Exits
 pub mod Marks
 pub mod Shape

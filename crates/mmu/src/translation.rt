@@ -11,6 +11,7 @@ use bits::field;
 use memory::answers::low32;
 use memory::loads::load_word;
 ghost use mathlib.Core.Path.{_≡_};
+ghost use Rattle.mmu.specs.declared.Kind.the-variants as kind;
 ghost use Rattle.mmu.specs.Walk.{segmentOf, segment, nonpagedOf, pageOf, walk, route as routeOf};
 
 // The first stage, by the word of the segment entry.
@@ -67,17 +68,48 @@ pub fn page(user: bool, k: Kind, va: u32, p: u32, e: u32) -> Walk
     }
 }
 
-// The walk of a virtual address. A page entry that the first stage gives lies in memory, so its load has a value.
-pub fn translate(m: &[u8], user: bool, stb: u32, k: Kind, va: u32) -> Walk
+// The second stage. A page entry that the first stage gives lies in memory, so its load has a value. (stb stands in
+// the contract alone.)
+pub fn second_stage(m: &[u8], user: bool, stb: u32, k: Kind, va: u32, s: Segment) -> Walk
+    requires { ⌜ s ≡ segment stb va (now m) ⌝ }
     ensures { λ r. ⌜ r ≡ walk user stb k va (now (m .entry)) ⌝ }
 {
-    let s = segment_entry(m, stb, va);
     match s {
         Segment::Outside => Walk::Fault(0xB),
         Segment::Invalid => Walk::Fault(fault_of(k)),
         Segment::Nonpaged(e) => nonpaged(user, k, va, e),
         Segment::Table(p) => page(user, k, va, p, low32(load_word(m, p))),
     }
+}
+
+// The walk of a virtual address.
+pub fn translate(m: &[u8], user: bool, stb: u32, k: Kind, va: u32) -> Walk
+    ensures { λ r. ⌜ r ≡ walk user stb k va (now (m .entry)) ⌝ }
+{
+    let s = segment_entry(m, stb, va);
+    second_stage(m, user, stb, k, va, s)
+}
+
+// The walks of accesses: each has one caller, so that the compiler lays it there.
+pub fn translate_fetch(m: &[u8], user: bool, stb: u32, va: u32) -> Walk
+    ensures { λ r. ⌜ r ≡ walk user stb kind.Fetch va (now (m .entry)) ⌝ }
+{
+    let s = segment_entry(m, stb, va);
+    second_stage(m, user, stb, Kind::Fetch, va, s)
+}
+
+pub fn translate_read(m: &[u8], user: bool, stb: u32, va: u32) -> Walk
+    ensures { λ r. ⌜ r ≡ walk user stb kind.Read va (now (m .entry)) ⌝ }
+{
+    let s = segment_entry(m, stb, va);
+    second_stage(m, user, stb, Kind::Read, va, s)
+}
+
+pub fn translate_write(m: &[u8], user: bool, stb: u32, va: u32) -> Walk
+    ensures { λ r. ⌜ r ≡ walk user stb kind.Write va (now (m .entry)) ⌝ }
+{
+    let s = segment_entry(m, stb, va);
+    second_stage(m, user, stb, Kind::Write, va, s)
 }
 
 // Where an access goes: through the tables where addresses are virtual, else to the address itself.

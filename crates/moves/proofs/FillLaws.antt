@@ -1,9 +1,10 @@
 -- The ways out of filling a quad-word, and the quad-words from MSP up.
 -- Assumes nothing.
-use Prim.Native.Nat.{ℕ, suc, _-_, _/_, _%_, _^_, _<_, _≤_}
+use Prim.Native.Nat.{ℕ, suc, _+_, _-_, _/_, _%_, _^_, _<_, _≤_}
 use mathlib.Core.Path.{_≡_, refl, sym, _∙_}
 use mathlib.Core.Bool.{Bool, true, false}
 use mathlib.Core.List.{List, [], _∷_}
+use native.Mathlib.Nat.{add-zero}
 use native.Mathlib.Omega.{arith}
 use lib.ListN.{getD, set, length}
 use Rattle.word.specs.declared.Width.the-variants.{Word}
@@ -11,7 +12,11 @@ use Rattle.word.specs.Sums.{plusOf}
 use Rattle.memory.specs.Answers.{answerOf}
 use Rattle.memory.specs.Bytes.{Memory}
 use Rattle.memory.proofs.AnswerLaws.{answer-low, answer-high}
+use Rattle.mmu.specs.declared.Kind.{Kind}
+use Rattle.mmu.specs.declared.Kind.the-variants.{Read}
 use Rattle.mmu.specs.declared.Regime.{Regime}
+use Rattle.handler.specs.Followed.{regimeFor}
+use Rattle.handler.specs.Quads.{Quad}
 use Rattle.program.specs.Access.{read, Gave, gave}
 use Rattle.program.specs.Program.{Program, interpret}
 use Rattle.program.specs.Journal.{Journaled, journaled, logging}
@@ -89,6 +94,23 @@ module _ (b : Bank) (q : Cache) (g : Regime) (a : ℕ) where
           quad-filled h v0 v1 v2 v3 p ev0 ev1 ev2 ev3 ep es =
               rw (answer-low x3 h, es, ev0, ev1, ev2, ev3, ep)
               (sym (third-read ∙ bind-low (cpu b q) d x3 (fillWord (cpu b q) g d) last t2 t3 (word-filled d x3 t2 t3 e3) h))
+
+-- all four words found by one walk
+pub found-filled : (b : Bank) (q : Cache) (user : Bool) (stb a pa : ℕ) (m : Memory) → Quad user stb Read a m pa → a < 2 ^ 32 → (x0 x1 x2 x3 v0 v1 v2 v3 p : ℕ)
+    → ((o : List ℕ) (w : List (List ℕ)) → gave (answerOf x0) (journaled m o w) ≡ logging (read (regimeFor stb user true) Word (a + 0)) (journaled m o w)) → x0 < 2 ^ 32
+    → ((o : List ℕ) (w : List (List ℕ)) → gave (answerOf x1) (journaled m o w) ≡ logging (read (regimeFor stb user true) Word (a + 4)) (journaled m o w)) → x1 < 2 ^ 32
+    → ((o : List ℕ) (w : List (List ℕ)) → gave (answerOf x2) (journaled m o w) ≡ logging (read (regimeFor stb user true) Word (a + 8)) (journaled m o w)) → x2 < 2 ^ 32
+    → ((o : List ℕ) (w : List (List ℕ)) → gave (answerOf x3) (journaled m o w) ≡ logging (read (regimeFor stb user true) Word (a + 12)) (journaled m o w)) → x3 < 2 ^ 32
+    → v0 ≡ x0 % 2 ^ 32 → v1 ≡ x1 % 2 ^ 32 → v2 ≡ x2 % 2 ^ 32 → v3 ≡ x3 % 2 ^ 32 → p ≡ plusOf a 16 → (o : List ℕ) (w : List (List ℕ))
+    → gave (ended (answerOf x3) (set b 4 p) (set q (a / 16 % 16) (v0 ∷ v1 ∷ v2 ∷ v3 ∷ []))) (journaled m o w) ≡ interpret logging (fillQuad (cpu b q) (regimeFor stb user true) a) (journaled m o w)
+found-filled b q user stb a pa m k l x0 x1 x2 x3 v0 v1 v2 v3 p e0 h0 e1 h1 e2 h2 e3 h3 f0 f1 f2 f3 ep o w =
+    let start = k .start in
+    quad-filled b q (regimeFor stb user true) a (journaled m o w) x0 (journaled m o w) (rw add-zero at (e0 o w)) (set b 4 p) h0 (a + 4) (omega arith) x1 (journaled m o w) (e1 o w)
+    h1 (a + 8) (omega arith) x2 (journaled m o w) (e2 o w) h2 (a + 12) (omega arith) x3 (journaled m o w) (e3 o w) h3 v0 v1 v2 v3 p f0 f1 f2 f3 ep refl
+
+-- the place that low32 takes from the answer of a search
+pub quad-at : (user : Bool) (stb : ℕ) (k : Kind) (a : ℕ) (m : Memory) (x p : ℕ) → (x < 2 ^ 32 → Quad user stb k a m x) → x < 2 ^ 32 → p ≡ x % 2 ^ 32 → Quad user stb k a m p
+quad-at user stb k a m x p f h e = let d : p ≡ x = omega arith in rw d (f h)
 
 -- ---- the quad-words from MSP up
 

@@ -1,6 +1,6 @@
 -- The ways out of flushing a word, a quad-word, and the quad-words from MSP down.
 -- Assumes nothing.
-use Prim.Native.Nat.{ℕ, suc, _-_, _^_, _<_, _≤_}
+use Prim.Native.Nat.{ℕ, suc, _+_, _-_, _^_, _<_, _≤_}
 use mathlib.Core.Path.{_≡_, refl, sym, _∙_}
 use mathlib.Core.Bool.{Bool, true, false}
 use mathlib.Core.List.{List}
@@ -18,6 +18,9 @@ use Rattle.machine.specs.Registers.{Bank, msp}
 use Rattle.machine.specs.Cache.{Cache, cacheWord}
 use Rattle.machine.specs.Status.{Cpu, cpu, with, isUser, isVirtual, regime}
 use Rattle.handler.specs.Followed.{regimeFor}
+use Rattle.handler.specs.Quads.{Quad}
+use Rattle.mmu.specs.declared.Kind.the-variants.{Write}
+use Rattle.mmu.specs.declared.Regime.{Regime}
 use Rattle.access.specs.Parts.{Out, ok, onward, _>>=_, done, replied}
 use Rattle.access.specs.Code.{ended}
 use Rattle.access.specs.Moves.{flushWord, flushQuad, mayFlush, flush}
@@ -73,6 +76,27 @@ module _ (b : Bank) (q : Cache) (a : ℕ) where
           pub quad-flushed : x3 < 2 ^ 32 → s ≡ set b 4 a → gave (ended (answerOf x3) s q) t3 ≡ interpret logging (flushQuad (cpu b q) a) t
           unfolding interpret
           quad-flushed h es = rw (answer-low x3 h, es) (sym (third-gone ∙ bind-low (cpu b q) d x3 (flushWord (cpu b q) d) (λ _. done (with (cpu b q) msp a)) t2 t3 e3 h))
+
+-- all four words stored by one walk
+module _ (b : Bank) (q : Cache) (g : Regime) (regime-is : regime b ≡ g) where
+  word-gone : (a d y x : ℕ) (t s : Journaled) → d ≡ a → y ≡ cacheWord q a → gave (answerOf x) s ≡ logging (write g Word d y) t → gave (replied (cpu b q) a (answerOf x)) s ≡ interpret logging (flushWord (cpu b q) a) t
+  unfolding flushWord
+  word-gone a d y x t s ed ey e = sym (requested (cpu b q) (answerOf x) t s (write (regime b) Word a (cacheWord q a)) a (e ∙ rw (regime-is, ed, ey) refl))
+
+pub found-flushed : (q : Cache) (user : Bool) (stb a pa : ℕ) (m : Memory) → Quad user stb Write a m pa → a < 2 ^ 32 → (x0 x1 x2 x3 v0 v1 v2 v3 c1 c2 c3 : ℕ) (t t0 t1 t2 t3 : Journaled)
+    → v0 ≡ cacheWord q a → gave (answerOf x0) t0 ≡ logging (write (regimeFor stb user true) Word (a + 0) v0) t → x0 < 2 ^ 32
+    → c1 ≡ plusOf a 4 → v1 ≡ cacheWord q c1 → gave (answerOf x1) t1 ≡ logging (write (regimeFor stb user true) Word (a + 4) v1) t0 → x1 < 2 ^ 32
+    → c2 ≡ plusOf a 8 → v2 ≡ cacheWord q c2 → gave (answerOf x2) t2 ≡ logging (write (regimeFor stb user true) Word (a + 8) v2) t1 → x2 < 2 ^ 32
+    → c3 ≡ plusOf a 12 → v3 ≡ cacheWord q c3 → gave (answerOf x3) t3 ≡ logging (write (regimeFor stb user true) Word (a + 12) v3) t2 → x3 < 2 ^ 32
+    → (b : Bank) → regime b ≡ regimeFor stb user true → gave (ended (answerOf x3) (set b 4 a) q) t3 ≡ interpret logging (flushQuad (cpu b q) a) t
+found-flushed q user stb a pa m k l x0 x1 x2 x3 v0 v1 v2 v3 c1 c2 c3 t t0 t1 t2 t3 f0 e0 h0 d1 f1 e1 h1 d2 f2 e2 h2 d3 f3 e3 h3 b r =
+    let start = k .start in
+    quad-flushed b q a t x0 t0 (word-gone b q (regimeFor stb user true) r a (a + 0) v0 x0 t t0 (omega arith) f0 e0) (set b 4 a) h0 c1 d1 x1 t1
+    (word-gone b q (regimeFor stb user true) r c1 (a + 4) v1 x1 t0 t1 (omega arith) f1 e1) h1 c2 d2 x2 t2 (word-gone b q (regimeFor stb user true) r c2 (a + 8) v2 x2 t1 t2 (omega arith) f2 e2)
+    h2 c3 d3 x3 t3 (word-gone b q (regimeFor stb user true) r c3 (a + 12) v3 x3 t2 t3 (omega arith) f3 e3) h3 refl
+
+pub regime-found : (b : Bank) (stb : ℕ) (user translated : Bool) → stb ≡ getD b 9 0 → user ≡ isUser b → translated ≡ isVirtual b → translated ≡ true → regime b ≡ regimeFor stb user true
+regime-found b stb user translated es eu ev t = rw (es, eu, sym ev ∙ t) refl
 
 -- ---- the quad-words from MSP down
 

@@ -1,22 +1,30 @@
 // Filling: quad-words of memory to the stack cache, from MSP up, in a regime given by its numbers.
 use access::faults::set_fault;
 use handler::accesses::read;
+use handler::quads::quad_place;
+use handler::quads::read_beside;
 use memory::answers::low32;
+use mmu::Kind;
 use word::Width;
 use word::sums::minus;
 use word::sums::plus;
 ghost use mathlib.Core.Path.{_≡_};
+ghost use mathlib.Core.Bool.{true};
+ghost use mathlib.Core.List.{List};
+ghost use Prim.Native.Nat.{ℕ};
 ghost use Rattle.memory.specs.Answers.{answerOf};
+ghost use Rattle.mmu.specs.declared.Kind.the-variants as kind;
 ghost use Rattle.program.specs.Access.{gave};
 ghost use Rattle.program.specs.Program.{interpret};
 ghost use Rattle.program.specs.Journal.{journaled, logging};
 ghost use Rattle.machine.specs.Status.{cpu};
 ghost use Rattle.handler.specs.Followed.{regimeFor};
+ghost use Rattle.handler.specs.Quads.{Quad};
 ghost use Rattle.access.specs.Code.{ended};
 ghost use Rattle.access.specs.Moves.{fillQuad, mayFill, fill as fillOf};
 
-// The quad-word at a, and MSP up past it; one whose read faults changes no word of the cache.
-fn fill_quad(
+// The quad-word at a word by word, and MSP up past it; one whose read faults changes no word of the cache.
+fn fill_words(
     m: &mut [u8],
     places: &mut [u32; 201],
     words: &mut [[u8; 4]; 200],
@@ -56,6 +64,52 @@ fn fill_quad(
     q[i] = [low32(x0), low32(x1), low32(x2), low32(x3)];
     r[4] = plus(a, 16);
     x3
+}
+
+// The quad-word at a, found at pa.
+fn fill_found(
+    m: &[u8],
+    q: &mut [[u32; 4]; 16],
+    r: &mut [u32; 17],
+    stb: u32,
+    user: bool,
+    a: u32,
+    pa: u32,
+) -> u64
+    requires { ⌜ Quad user stb kind.Read a (now m) pa ⌝ }
+    ensures { λ x. ⌜ ((o : List ℕ) (w : List (List ℕ)) → gave (ended (answerOf x) (now (r .exit)) (now (q .exit))) (journaled (now (m .entry)) o w) ≡ interpret logging (fillQuad (cpu (now (r .entry)) (now (q .entry))) (regimeFor stb user true) a) (journaled (now (m .entry)) o w)) ⌝ }
+{
+    let x0 = read_beside(m, stb, user, a, pa, 0);
+    let x1 = read_beside(m, stb, user, a, pa, 4);
+    let x2 = read_beside(m, stb, user, a, pa, 8);
+    let x3 = read_beside(m, stb, user, a, pa, 12);
+    let i = (a / 16 % 16) as usize;
+    q[i] = [low32(x0), low32(x1), low32(x2), low32(x3)];
+    r[4] = plus(a, 16);
+    x3
+}
+
+// The quad-word at a, by one walk where that does for its four words.
+fn fill_quad(
+    m: &mut [u8],
+    places: &mut [u32; 201],
+    words: &mut [[u8; 4]; 200],
+    q: &mut [[u32; 4]; 16],
+    r: &mut [u32; 17],
+    stb: u32,
+    user: bool,
+    translated: bool,
+    a: u32,
+) -> u64
+    ensures { λ x. ⌜ gave (ended (answerOf x) (now (r .exit)) (now (q .exit))) (journaled (now (m .exit)) (now (places .exit)) (now (words .exit))) ≡ interpret logging (fillQuad (cpu (now (r .entry)) (now (q .entry))) (regimeFor stb user translated) a) (journaled (now (m .entry)) (now (places .entry)) (now (words .entry))) ⌝ }
+{
+    if translated {
+        let x = quad_place(m, stb, user, Kind::Read, a);
+        if x < 0x1_0000_0000 {
+            return fill_found(m, q, r, stb, user, a, low32(x));
+        }
+    }
+    fill_words(m, places, words, q, r, stb, user, translated, a)
 }
 
 // Whether MSP is below the target and the cache is not full.

@@ -1,17 +1,27 @@
 // Flushing: quad-words of the stack cache to memory, from MSP down.
 use access::faults::set_fault;
+use handler::quads::quad_place;
+use handler::quads::write_beside;
 use machine::cache::cache_word;
 use machine::status::is_user;
 use machine::status::is_virtual;
+use memory::answers::low32;
+use mmu::Kind;
 use word::Width;
 use word::sums::minus;
 use word::sums::plus;
 ghost use mathlib.Core.Path.{_≡_};
+ghost use mathlib.Core.Bool.{true};
+ghost use lib.ListN.{set};
 ghost use Rattle.memory.specs.Answers.{answerOf};
+ghost use Rattle.mmu.specs.declared.Kind.the-variants as kind;
 ghost use Rattle.program.specs.Access.{gave};
 ghost use Rattle.program.specs.Program.{interpret};
 ghost use Rattle.program.specs.Journal.{journaled, logging};
-ghost use Rattle.machine.specs.Status.{cpu};
+ghost use Rattle.machine.specs.Registers.{Bank};
+ghost use Rattle.machine.specs.Status.{cpu, regime};
+ghost use Rattle.handler.specs.Followed.{regimeFor};
+ghost use Rattle.handler.specs.Quads.{Quad};
 ghost use Rattle.access.specs.Parts.{replied};
 ghost use Rattle.access.specs.Code.{ended};
 ghost use Rattle.access.specs.Moves.{flushWord, flushQuad, mayFlush, flush as flushOf};
@@ -40,8 +50,8 @@ fn flush_word(
     )
 }
 
-// The quad-word at a, and MSP down to it; words stored before a fault stay.
-fn flush_quad(
+// The quad-word at a word by word, and MSP down to it; words stored before a fault stay.
+fn flush_words(
     m: &mut [u8],
     places: &mut [u32; 201],
     words: &mut [[u8; 4]; 200],
@@ -76,6 +86,55 @@ fn flush_quad(
     }
     r[4] = a;
     x3
+}
+
+// The words of the quad-word at a, found at pa.
+fn flush_found(
+    m: &mut [u8],
+    places: &mut [u32; 201],
+    words: &mut [[u8; 4]; 200],
+    q: &[[u32; 4]; 16],
+    stb: u32,
+    user: bool,
+    a: u32,
+    pa: u32,
+) -> u64
+    requires { ⌜ Quad user stb kind.Write a (now m) pa ⌝ }
+    ensures { λ x. ⌜ ((b : Bank) → regime b ≡ regimeFor stb user true → gave (ended (answerOf x) (set b 4 a) (now (q .entry))) (journaled (now (m .exit)) (now (places .exit)) (now (words .exit))) ≡ interpret logging (flushQuad (cpu b (now (q .entry))) a) (journaled (now (m .entry)) (now (places .entry)) (now (words .entry)))) ⌝ }
+{
+    let v0 = cache_word(q, a);
+    let x0 = write_beside(m, places, words, stb, user, a, pa, 0, v0);
+    let v1 = cache_word(q, plus(a, 4));
+    let x1 = write_beside(m, places, words, stb, user, a, pa, 4, v1);
+    let v2 = cache_word(q, plus(a, 8));
+    let x2 = write_beside(m, places, words, stb, user, a, pa, 8, v2);
+    let v3 = cache_word(q, plus(a, 12));
+    write_beside(m, places, words, stb, user, a, pa, 12, v3)
+}
+
+// The quad-word at a, by one walk where that does for its four words.
+fn flush_quad(
+    m: &mut [u8],
+    places: &mut [u32; 201],
+    words: &mut [[u8; 4]; 200],
+    q: &[[u32; 4]; 16],
+    r: &mut [u32; 17],
+    a: u32,
+) -> u64
+    ensures { λ x. ⌜ gave (ended (answerOf x) (now (r .exit)) (now (q .entry))) (journaled (now (m .exit)) (now (places .exit)) (now (words .exit))) ≡ interpret logging (flushQuad (cpu (now (r .entry)) (now (q .entry))) a) (journaled (now (m .entry)) (now (places .entry)) (now (words .entry))) ⌝ }
+{
+    let translated = is_virtual(r);
+    let stb = r[9];
+    let user = is_user(r);
+    if translated {
+        let x = quad_place(m, stb, user, Kind::Write, a);
+        if x < 0x1_0000_0000 {
+            let y = flush_found(m, places, words, q, stb, user, a, low32(x));
+            r[4] = a;
+            return y;
+        }
+    }
+    flush_words(m, places, words, q, r, a)
 }
 
 // Whether words are held, and all are to go or too many would be held above the target.

@@ -1,10 +1,7 @@
 use Rattle.mmu.proofs.Exits.{walk-outside, walk-invalid, walk-nonpaged, walk-table}
 use borrow.Author.Needs.{needs}
-use Rattle.mmu.proofs.translation.translate.Statement.{statement}
-use Rattle.mmu.proofs.translation.translate.Tie as tie
-
-segment-entry-requires : tie.Need-segment-entry-requires
-segment-entry-requires c κs = search needs
+use Rattle.mmu.proofs.translation.second_stage.Statement.{statement}
+use Rattle.mmu.proofs.translation.second_stage.Tie as tie
 
 enum-told : tie.Need-enum-told
 enum-told c = search needs
@@ -45,11 +42,10 @@ returns-3 c = search (needs, walk-nonpaged)
 returns-4 : tie.Need-returns-4
 returns-4 c = search (needs, walk-table)
 
-pub translate-spec : {M : Type 1} → statement M
-translate-spec =
+pub second-stage-spec : {M : Type 1} → statement M
+second-stage-spec =
     tie.close
     (tie.spec
-    segment-entry-requires
     enum-told
     enum-told-2
     fault-of-requires
