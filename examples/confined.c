@@ -2,11 +2,10 @@
  * frames. The rule adds 5 to a stack word twice and calls the kernel. */
 #include <inttypes.h>
 #include <stdio.h>
-#include <string.h>
 
 #include "hobbit.h"
 
-enum { CONFIG = 1, PC = 6, PSW = 7, SP = 9, STB = 10 };
+enum { PC = 6, PSW = 7, SP = 9, STB = 10 };
 
 static uint8_t memory[65536];
 
@@ -19,8 +18,8 @@ int main(void)
     static const uint8_t rule[] = {0x50, 0xA0, 0x50, 0xA0, 0x00, 0x01};
 
     hobbit_start(registers, cache);
-    memcpy(memory + 0x8000, segment, sizeof segment);
-    memcpy(memory + 0x1000, rule, sizeof rule);
+    hobbit_store(memory, sizeof memory, 0x8000, segment, sizeof segment);
+    hobbit_store(memory, sizeof memory, 0x1000, rule, sizeof rule);
     hobbit_set(registers, STB, 0x8000);
     hobbit_set(registers, SP, 0x3000);
     hobbit_set(registers, PC, 0x1000);
@@ -28,6 +27,6 @@ int main(void)
 
     HobbitAnswer a = hobbit_run(memory, sizeof memory, registers, cache, true, 10, 7);
     printf("83%08" PRIX32 "%02" PRIX32 "%02" PRIX32 "%08" PRIX32 "%08" PRIX32 "\n", a.steps, a.stop, a.code,
-           registers[PC - 1], registers[PSW - 1]);
+           hobbit_get(registers, PC).value, hobbit_get(registers, PSW).value);
     return 0;
 }

@@ -10,6 +10,7 @@
  *   2  no such register, a reserved bit set, or MSP not in SP to SP + 256
  *   3  interrupt level above 7
  *   4  the next step would leave MSP outside SP to SP + 256
+ *   8  bytes that reach past the end of memory
  *   9  a confined run without user level and virtual addressing
  */
 #ifndef HOBBIT_H
@@ -33,6 +34,18 @@ void hobbit_start(uint32_t registers[17], uint32_t cache[64]);
 /* The register at its place in Table 1-1 (1 CONFIG to 13 VB) set to a word; SP sets MSP, ID takes no word.
  * 0, or 2 and the registers as they were. */
 uint32_t hobbit_set(uint32_t registers[17], uint32_t place, uint32_t value);
+
+/* A register's word, with refusal 0; or refusal 2 and 0. */
+typedef struct {
+    uint32_t refusal;
+    uint32_t value;
+} HobbitWord;
+
+HobbitWord hobbit_get(const uint32_t registers[17], uint32_t place);
+
+/* Bytes stored from a physical address on, or loaded from it: 0, or 8 and all as it was. */
+uint32_t hobbit_store(uint8_t *memory, size_t bytes, uint32_t address, const uint8_t *from, size_t count);
+uint32_t hobbit_load(const uint8_t *memory, size_t bytes, uint32_t address, uint8_t *to, size_t count);
 
 /* One step with the interrupt input at a level (7 is none), events taken: 0, or 1, 2, 3 or 4 and all as it was. */
 uint32_t hobbit_step(uint8_t *memory, size_t bytes, uint32_t registers[17], uint32_t cache[64], uint32_t level);

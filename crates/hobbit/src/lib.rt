@@ -1,5 +1,9 @@
 // The C interface: calls over memory and blocks of words that the caller lends (include/hobbit.h says what each does).
+// Here: the machine; in `bytes` its memory.
+pub mod bytes;
+
 use machine::Machine;
+use machine::assign::read_register;
 use machine::assign::set_register;
 use machine::cache::quads;
 use machine::record::bank;
@@ -8,10 +12,11 @@ use machine::record::start;
 use runs::running::run;
 use runs::running::step;
 ghost use mathlib.Core.Path.{_≡_};
+ghost use lib.ListN.{replicate};
 ghost use Rattle.machine.specs.Registers.{startBank, setting, setRegister};
 ghost use Rattle.machine.specs.Cache.{quadsOf};
 ghost use Rattle.machine.specs.Status.{cpu};
-ghost use Rattle.machine.specs.Record.{cpuOf, zeroCache};
+ghost use Rattle.machine.specs.Record.{cpuOf, zeroCache, reading, readingOf};
 ghost use Rattle.run.specs.Run.{board, run as runOf};
 ghost use Rattle.runs.specs.Code.{oneStep};
 ghost use Rattle.hobbit.specs.Blocks.{bankIn, machineIn, boardIn, answeredBy, advancedAs};
@@ -97,4 +102,24 @@ pub extern "C" fn hobbit_set(registers: &mut [u32; 17], place: u32, value: u32) 
     let left = s.machine;
     *registers = bank(left);
     s.refusal
+}
+
+// A register read: 0 and its word, or refusal 2 and 0.
+#[repr(C)]
+pub struct HobbitWord {
+    pub refusal: u32,
+    pub value: u32,
+}
+
+// The register at a place of Table 1-1.
+#[no_mangle]
+pub extern "C" fn hobbit_get(registers: &[u32; 17], place: u32) -> HobbitWord
+    ensures { λ x. ⌜ reading (x .refusal) (x .value) ≡ readingOf (machineIn (now (registers .entry)) (replicate 64 0)) place ⌝ }
+{
+    let zeros = [0u32; 64];
+    let x = read_register(machine_in(registers, &zeros), place);
+    HobbitWord {
+        refusal: x.refusal,
+        value: x.value,
+    }
 }
