@@ -3,7 +3,8 @@
  * Nothing is kept between calls: the caller lends the memory and two blocks of words, which hold the whole machine.
  *   registers  17 words: the thirteen registers in the order of Table 1-1 (CONFIG, FAULT, ID, ISP, MSP, PC, PSW, SHAD, SP,
  *              STB, TIMER1, TIMER2, VB), then what is due: trace, Timer1, Timer2, and whether interrupt input 0 was taken and
- *              no look has found another level since; each of these four counts if it is 1
+ *              no look has found another level since; each of these four counts if it is 1, and any call
+ *              that writes the registers, a refused one too, writes another word there as 0
  *   cache      64 words: the sixteen quad-words of the stack cache
  * No call has a precondition but these sizes. A call that refuses answers the refusal's number:
  *   1  memory is not 1 to 4,096 pages of 4,096 bytes
