@@ -1,24 +1,22 @@
 -- One part after another under the journal, and a part that is one access.
 -- Assumes nothing.
-use mathlib.Core.Path.{_≡_, refl, sym, ap, _∙_}
+use mathlib.Core.Path.{_≡_, refl, sym, ap}
 use mathlib.Core.Bool.{Bool, true, false, cond, _||_}
 use Prim.Native.Nat.{ℕ, _%_, _^_, _<_, _≤_}
 use lib.ListN.{set}
 use lib.Dec.{eqb}
-use Rattle.memory.specs.Answers.{Answer, got, bad, answerOf}
+use Rattle.memory.specs.Answers.{Answer, answerOf}
 use Rattle.memory.proofs.AnswerLaws.{answer-low, answer-high}
-use Rattle.program.specs.Access.{Access, fetch, read, write, probe, Gave, gave}
-use Rattle.program.specs.Program.{Program, ret, ask, Handler, interpret, after}
+use Rattle.program.specs.Access.{Access, fetch, read, write, Gave, gave}
+use Rattle.program.specs.Program.{Program, interpret, after}
 use Rattle.program.specs.Journal.{Journaled, logging}
 use Rattle.program.proofs.Interpret.{interpret-after}
-use Rattle.word.specs.declared.Width.{Width}
 use Rattle.word.specs.declared.Width.the-variants.{Word}
 use Rattle.machine.specs.Registers.{Bank}
 use Rattle.machine.specs.Cache.{Cache}
 use Rattle.machine.specs.Status.{Cpu, cpu, regime, kernelRegime}
-use Rattle.mmu.specs.declared.Regime.{Regime}
-use Rattle.access.specs.Parts.{Out, ok, stop, onward, _>>=_, faulted, replied, request, parcelReplied, parcelRequest, frameReplied, frameRequest}
-use Rattle.access.specs.Data.{readFrame, writeFrame, checkStore}
+use Rattle.access.specs.Parts.{Out, stop, onward, _>>=_, faulted, replied, request, parcelReplied, parcelRequest, frameReplied, frameRequest}
+use Rattle.access.specs.Data.{readFrame, writeFrame}
 use Rattle.access.specs.Text.{fetchParcel}
 
 pub bind : {A B : Type 0} (p : Program (Out A)) (f : A → Program (Out B)) (t : Journaled)

@@ -6,22 +6,21 @@ use mathlib.Core.Bool.{Bool, true, false, cond}
 use mathlib.Core.List.{List, []}
 use native.Mathlib.Omega.{arith}
 use lib.ListN.{getD}
-use lib.Dec.{eqb}
 use borrow.Author.Tests.{eq-eqb}
 use Rattle.word.specs.declared.Width.{Width}
 use Rattle.word.specs.declared.Width.the-variants.{Byte, Half, Word}
 use Rattle.word.specs.Widths.{bytesOf}
 use Rattle.memory.specs.Answers.{Answer, got, bad}
 use Rattle.memory.specs.Bytes.{Memory, placeOf}
-use Rattle.program.specs.Access.{Access, read, write, probe, fetch, alignmentFault, Gave, gave}
-use Rattle.program.specs.Program.{Program, ret, ask, interpret, after}
+use Rattle.program.specs.Access.{read, write, probe, fetch, alignmentFault, Gave, gave}
+use Rattle.program.specs.Program.{ret, interpret, after}
 use Rattle.program.specs.Journal.{Journaled, journaled, logging}
 use Rattle.machine.specs.Registers.{Bank}
 use Rattle.machine.specs.Cache.{Cache, cacheRead, cacheWrite}
 use Rattle.machine.specs.Status.{Cpu, cpu, cached, isLittle, isUser, isVirtual, regime, kernelRegime}
 use Rattle.handler.specs.Followed.{regimeFor, fitsWidth, onlyMemory}
-use Rattle.access.specs.Parts.{Out, ok, stop, onward, _>>=_, done, replied, request, parcelReplied, parcelRequest, frameReplied, frameRequest}
-use Rattle.access.specs.Data.{isAligned, readCached, readMemory, readData, writeCached, writeMemory, writeData, readFrame, writeFrame, checkStore}
+use Rattle.access.specs.Parts.{Out, stop, onward, _>>=_, done, replied, request}
+use Rattle.access.specs.Data.{isAligned, readCached, readMemory, readData, writeCached, writeMemory, writeData}
 use Rattle.access.specs.Code.{wrote}
 
 fits-aligned : (w : Width) (a : ℕ) → fitsWidth w a ≡ isAligned w a

@@ -1,30 +1,29 @@
 -- The ways out of fetching the parcels after a first one.
 -- Assumes nothing.
-use Prim.Native.Nat.{ℕ, zero, suc, _+_, _*_, _/_, _%_, _^_, _<_, _≤_}
-use mathlib.Core.Path.{_≡_, refl, sym, ap, _∙_}
-use mathlib.Core.Bool.{Bool, true, false, cond}
+use Prim.Native.Nat.{ℕ, suc, _/_, _%_, _^_, _<_, _≤_}
+use mathlib.Core.Path.{_≡_, refl, sym, _∙_}
+use mathlib.Core.Bool.{false}
 use mathlib.Core.List.{List, [], _∷_}
 use native.Mathlib.Omega.{arith}
 use lib.Dec.{ltb, eqb}
-use borrow.Author.Tests.{lt-ltb, le-ltb, ne-eqb, eq-eqb}
+use borrow.Author.Tests.{lt-ltb, le-ltb, ne-eqb}
 use Rattle.laws.proofs.Cases.{by-test}
-use Rattle.memory.specs.Answers.{Answer, got, bad, answerOf}
+use Rattle.memory.specs.Answers.{answerOf}
 use Rattle.memory.proofs.AnswerLaws.{answer-low, answer-high}
 use Rattle.isa.specs.declared.Text.{Text}
 use Rattle.isa.specs.Decode.{textOf, cpuPrefix}
 use Rattle.word.specs.Sums.{plusOf}
 use Rattle.program.specs.Access.{fetch, Gave, gave}
-use Rattle.program.specs.Program.{Program, interpret, after}
+use Rattle.program.specs.Program.{interpret, after}
 use Rattle.program.specs.Journal.{Journaled, logging}
 use Rattle.machine.specs.Registers.{pc}
 use Rattle.machine.specs.Status.{Cpu, reg, regime}
 use Rattle.access.specs.declared.text.Operands.{Operands}
-use Rattle.access.specs.declared.text.Fetched.{Fetched}
-use Rattle.access.specs.Parts.{Out, ok, stop, onward, _>>=_, done, parcelReplied}
-use Rattle.access.specs.Text.{fetchParcel, fetchParcels, following, fetchAfter, fetchPrefixed, fetchText}
+use Rattle.access.specs.Parts.{Out, ok, stop, onward, _>>=_, done}
+use Rattle.access.specs.Text.{fetchParcels, following, fetchAfter, fetchPrefixed, fetchText}
 use Rattle.access.specs.Code.{fetchTwo, joinedOut, listed, operandsOut, textOut}
 use Rattle.access.proofs.Bind.{bind, parcel-fetched}
-use Rattle.access.proofs.TextLaws.{halves, inPairs, pairs}
+use Rattle.access.proofs.TextLaws.{halves, pairs}
 
 -- ---- the first word, then n parcels more
 

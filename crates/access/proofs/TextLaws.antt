@@ -1,9 +1,8 @@
 -- The text of an instruction, parcel by parcel and in pairs.
 -- Assumes nothing.
-use Prim.Native.Nat.{ℕ, zero, suc, _+_, _*_, _/_, _%_, _^_, _<_, _≤_}
+use Prim.Native.Nat.{ℕ, suc, _+_, _*_, _/_, _%_, _^_, _<_, _≤_}
 use mathlib.Core.Path.{_≡_, refl, sym, ap, _∙_}
-use mathlib.Core.Bool.{Bool, true, false, cond}
-use mathlib.Core.List.{List, [], _∷_}
+use mathlib.Core.List.{List, _∷_}
 use native.Mathlib.Omega.{arith}
 use Rattle.memory.specs.Answers.{Answer, got, bad, answerOf}
 use Rattle.memory.proofs.AnswerLaws.{answer-low, answer-high, answer-got}
@@ -12,9 +11,9 @@ use Rattle.word.specs.Sums.{plusOf}
 use Rattle.program.specs.Access.{fetch, Gave, gave}
 use Rattle.program.specs.Program.{Program, interpret}
 use Rattle.program.specs.Journal.{Journaled, logging}
-use Rattle.machine.specs.Status.{Cpu, cpu, regime}
+use Rattle.machine.specs.Status.{Cpu, regime}
 use Rattle.access.specs.Parts.{Out, ok, stop, onward, _>>=_, done, parcelReplied}
-use Rattle.access.specs.Text.{fetchParcel, fetchParcels, fetchAfter, fetchPrefixed, fetchText, following}
+use Rattle.access.specs.Text.{fetchParcel, fetchParcels}
 use Rattle.access.specs.Code.{fetchTwo, joinedOut}
 use Rattle.access.proofs.Bind.{bind, parcel-fetched}
 

@@ -11,7 +11,7 @@ use Rattle.program.specs.Access.{read, write, probe, alignmentFault}
 use Rattle.program.specs.Program.{Program, ret}
 use Rattle.machine.specs.Cache.{cacheRead, cacheWrite}
 use Rattle.machine.specs.Status.{Cpu, cpu, cached, isLittle, regime, kernelRegime}
-use Rattle.access.specs.Parts.{Out, ok, stop, done, request, frameRequest, _>>=_}
+use Rattle.access.specs.Parts.{Out, stop, done, request, frameRequest, _>>=_}
 
 -- where an operand of width w at address a stands
 abbrev pub place : Cpu → Width → ℕ → ℕ

@@ -2,7 +2,7 @@
 -- Assumes nothing.
 use Prim.Native.Nat.{ℕ, zero, suc, _/_, _%_}
 use mathlib.Core.Bool.{Bool, cond, not, _&&_, _||_}
-use mathlib.Core.List.{List, [], _∷_}
+use mathlib.Core.List.{[], _∷_}
 use lib.ListN.{set}
 use lib.Dec.{eqb, ltb}
 use Rattle.word.specs.declared.Width.the-variants.{Word}
@@ -13,7 +13,7 @@ use Rattle.program.specs.Program.{Program}
 use Rattle.machine.specs.Registers.{Bank, word, msp, sp}
 use Rattle.machine.specs.Cache.{cacheWord}
 use Rattle.machine.specs.Status.{Cpu, cpu, reg, with, regime}
-use Rattle.access.specs.Parts.{Out, ok, stop, done, request, _>>=_}
+use Rattle.access.specs.Parts.{Out, done, request, _>>=_}
 
 -- the stack cache's size in bytes
 abbrev pub scsize : ℕ

@@ -1,7 +1,7 @@
 -- Parts of an instruction: each gives a value, or stops the instruction by an exception with the machine as it then is.
 -- Assumes nothing.
 use Prim.Native.Nat.{ℕ, _%_, _^_}
-use mathlib.Core.Bool.{Bool, cond, _||_}
+use mathlib.Core.Bool.{cond, _||_}
 use lib.Dec.{eqb}
 use Rattle.memory.specs.Answers.{Answer, got, bad}
 use Rattle.program.specs.Access.{Access}

@@ -11,7 +11,7 @@ use Rattle.program.specs.Access.{fetch}
 use Rattle.program.specs.Program.{Program}
 use Rattle.machine.specs.Registers.{pc}
 use Rattle.machine.specs.Status.{Cpu, reg, regime}
-use Rattle.access.specs.Parts.{Out, ok, stop, done, parcelRequest, _>>=_}
+use Rattle.access.specs.Parts.{Out, done, parcelRequest, _>>=_}
 
 unfoldable pub fetchParcel : Cpu → ℕ → Program (Out ℕ)
 fetchParcel c a = parcelRequest c (fetch (regime (c .bank)) a)

@@ -8,12 +8,11 @@ use Rattle.isa.specs.declared.Wide.{Wide}
 use Rattle.isa.specs.declared.Wide.the-variants.{Three, Five}
 use Rattle.machine.specs.Registers.{config, pc, psw}
 use Rattle.machine.specs.Status.{Cpu, reg, with}
-use Rattle.exec.specs.Alu.{Result, withFlags}
 use Rattle.exec.specs.Operands.{absoluteAddress}
 use Rattle.exec.specs.Dyadic.{tagged, taggedFlags}
 use Rattle.exec.specs.Control.{testBit}
 use Rattle.alu.specs.Modes.{absoluteOn}
-use Rattle.alu.specs.Results.{laidOver, taggedWith, taggedOver}
+use Rattle.alu.specs.Results.{taggedWith, taggedOver}
 use Rattle.alu.specs.Status.{testedOf}
 
 -- an absolute address
@@ -22,9 +21,6 @@ absolute-address c Three v = refl
 absolute-address c Five v = refl
 
 -- the PSW of a machine
-pub flags-laid : (c : Cpu) (r : Result) → withFlags c (r .carry) (r .overflow) ≡ with c psw (laidOver r (reg c psw))
-flags-laid c r = refl
-
 pub tagged-with : (m : Bool) (c : Cpu) (d s : ℕ) → tagged m c d s ≡ taggedWith m (reg c psw) d s
 tagged-with true c d s = refl
 tagged-with false c d s = refl

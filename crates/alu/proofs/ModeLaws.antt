@@ -1,6 +1,6 @@
 -- Laws of operands by their modes.
 -- Assumes nothing.
-use mathlib.Core.Path.{_≡_, refl, sym, ap, _∙_}
+use mathlib.Core.Path.{_≡_, sym, _∙_}
 use mathlib.Core.Bool.{Bool, true, false}
 use Prim.Native.Nat.{ℕ, _*_, _/_, _^_}
 use Rattle.word.specs.declared.Width.{Width}
@@ -9,7 +9,7 @@ use Rattle.word.specs.Widths.{bitsOf, signExtendOf}
 use Rattle.bits.specs.Bits.{bitOf}
 use Rattle.isa.specs.declared.Mode.{Mode}
 use Rattle.isa.specs.declared.Wide.{Wide}
-use Rattle.isa.specs.declared.Wide.the-variants.{Three, Five}
+use Rattle.isa.specs.declared.Wide.the-variants.{Three}
 use Rattle.exec.specs.Operands.{widthOf, isSigned, expanded}
 use Rattle.alu.specs.Modes.{absoluteOn}
 

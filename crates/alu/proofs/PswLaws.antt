@@ -1,9 +1,9 @@
 -- Laws of the PSW's bits.
 -- Assumes nothing.
-use mathlib.Core.Path.{_≡_, refl, sym, ap, _∙_}
+use mathlib.Core.Path.{_≡_}
 use mathlib.Core.Bool.{Bool, true, false, not}
-use Prim.Native.Nat.{ℕ, _+_, _-_, _*_, _/_, _%_, _^_, _≤_, _<_}
-use native.Mathlib.Nat.{one-mul, zero-mul, add-mul, mod-lt}
+use Prim.Native.Nat.{ℕ, _-_, _*_, _%_, _^_, _≤_, _<_}
+use native.Mathlib.Nat.{one-mul, zero-mul, add-mul}
 use native.Mathlib.Omega.{arith}
 use Rattle.bits.specs.Bits.{bitOf, setOf}
 use Rattle.bits.proofs.Laws.{shl-one}

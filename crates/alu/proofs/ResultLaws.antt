@@ -1,8 +1,8 @@
 -- Laws of packed results.
 -- Assumes nothing.
-use mathlib.Core.Path.{_≡_, refl, sym, ap, _∙_}
-use mathlib.Core.Bool.{Bool, true, false, not}
-use Prim.Native.Nat.{ℕ, _+_, _-_, _*_, _/_, _%_, _^_, _≤_, _<_}
+use mathlib.Core.Path.{_≡_, refl, ap, _∙_}
+use mathlib.Core.Bool.{Bool, true, false}
+use Prim.Native.Nat.{ℕ, _+_, _-_, _*_, _/_, _%_, _^_, _<_}
 use native.Mathlib.Omega.{arith}
 use borrow.Author.Tests.{ne-eqb}
 use lib.Dec.{eqb}
@@ -13,7 +13,7 @@ use Rattle.exec.specs.declared.Operation.{Operation}
 use Rattle.exec.specs.declared.Relation.{Relation}
 use Rattle.word.specs.Tags.{taggedAddOf, taggedSubOf}
 use Rattle.bits.specs.Bits.{bitOf}
-use Rattle.exec.specs.Alu.{Flag, stays, gets, Result, digit, flagged, withBitAs, carryBit, overflowBit, flagBit, operate, related}
+use Rattle.exec.specs.Alu.{stays, gets, digit, flagged, withBitAs, carryBit, overflowBit, flagBit, operate, related}
 use Rattle.alu.specs.Results.{flagFrom, result, unpacked, laidOver, taggedWith, taggedOver}
 
 low-code : (c o : ℕ) → c < 4 → (c + o * 4) % 4 ≡ c

@@ -1,6 +1,6 @@
 -- A result of an operation in one number of 36 bits: its value below, then two bits for the carry and two for the overflow.
 -- Assumes nothing.
-use Prim.Native.Nat.{ℕ, _+_, _*_, _/_, _%_, _^_}
+use Prim.Native.Nat.{ℕ, _/_, _%_, _^_}
 use mathlib.Core.Bool.{Bool, true, false, cond}
 use lib.Dec.{eqb}
 use Rattle.word.specs.declared.Tagged.{Tagged}

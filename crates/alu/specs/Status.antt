@@ -1,7 +1,7 @@
 -- The PSW after TESTC and TESTV, as a number.
 -- Assumes nothing.
 use Prim.Native.Nat.{ℕ}
-use mathlib.Core.Bool.{Bool, false}
+use mathlib.Core.Bool.{false}
 use Rattle.bits.specs.Bits.{bitOf}
 use Rattle.exec.specs.Alu.{withBitAs, flagBit}
 

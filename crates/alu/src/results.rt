@@ -14,7 +14,7 @@ use word::shifts::ushr;
 use word::sums::add;
 use word::sums::sub;
 ghost use mathlib.Core.Path.{_≡_};
-ghost use mathlib.Core.Bool.{Bool, true, false};
+ghost use mathlib.Core.Bool.{false};
 ghost use Prim.Native.Nat.{_%_, _<_};
 ghost use Rattle.exec.specs.declared.Operation.the-variants.{Add, Sub, Mul, Div, Rem, Udiv, Urem, And, Or, Xor, Shl, Shr, Ushr};
 ghost use Rattle.exec.specs.Alu.{stays, gets, flagged, operate as operateOf};

@@ -2,7 +2,7 @@
 -- Assumes nothing.
 use Prim.Native.Nat.{ℕ, _%_, _^_, _<_, _≤_}
 use mathlib.Core.Path.{_≡_, refl, sym, ap, _∙_}
-use mathlib.Core.Bool.{Bool, true, false, cond, _&&_}
+use mathlib.Core.Bool.{Bool, true, false, _&&_}
 use native.Mathlib.Omega.{arith}
 use borrow.Author.Tests.{lt-ltb, ne-eqb}
 use Rattle.isa.specs.declared.MonadicMode.{MonadicMode}
@@ -11,12 +11,11 @@ use Rattle.isa.specs.declared.Instruction.the-variants as instruction
 use Rattle.isa.specs.declared.ShortInstruction.{ShortInstruction}
 use Rattle.isa.specs.declared.DyadicInstruction.{DyadicInstruction}
 use Rattle.isa.specs.declared.MonadicInstruction.{MonadicInstruction}
-use Rattle.isa.specs.declared.Answer.{Answer}
 use Rattle.laws.proofs.Cases.{and-left, and-right}
-use Rattle.memory.specs.Answers.{got, bad, answerOf}
+use Rattle.memory.specs.Answers.{answerOf}
 use Rattle.memory.proofs.AnswerLaws.{answer-high, answer-got}
 use Rattle.program.specs.Access.{Gave, gave}
-use Rattle.program.specs.Program.{Program, ret, interpret}
+use Rattle.program.specs.Program.{Program, interpret}
 use Rattle.program.specs.Journal.{Journaled, logging}
 use Rattle.machine.specs.Registers.{Bank}
 use Rattle.machine.specs.Cache.{Cache}
@@ -30,8 +29,8 @@ use Rattle.exec.specs.Execute.{Normal, oneOperand, shortNormal, monadicOf, norm
 use Rattle.rows.specs.declared.ShortForm.{ShortForm}
 use Rattle.rows.specs.declared.ShortForm.the-variants.{One}
 use Rattle.rows.specs.Rows.{formed, tracedFrom}
-use Rattle.step.specs.Step.{Met, meets, vectored, Acted, finished, sequenced, act}
-use Rattle.run.specs.Run.{Tried, tried, fetched, isKcall, tryActed, kcallCode, unimplementedCode}
+use Rattle.step.specs.Step.{meets, vectored, finished, sequenced, act}
+use Rattle.run.specs.Run.{Tried, tried, isKcall, tryActed}
 use Rattle.attempts.specs.Code.{actOf, triedOut}
 
 -- ---- a part whose value is only renamed

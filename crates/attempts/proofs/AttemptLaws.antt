@@ -18,13 +18,13 @@ use Rattle.machine.specs.Registers.{Bank}
 use Rattle.machine.specs.Cache.{Cache}
 use Rattle.machine.specs.Status.{Cpu, cpu}
 use Rattle.access.specs.declared.text.Fetched.{Fetched}
-use Rattle.access.specs.Parts.{Out, ok, stop, onward, done, _>>=_}
+use Rattle.access.specs.Parts.{Out, ok, stop, onward, _>>=_}
 use Rattle.access.specs.Text.{fetchText}
 use Rattle.access.specs.Code.{textOut}
 use Rattle.access.proofs.Bind.{bind}
 use Rattle.step.specs.Step.{Met, met, fetchInstruction, Acted, sequenced, act, attempt}
 use Rattle.run.specs.Run.{Tried, tried, fetched, confinedAttempt}
-use Rattle.attempts.specs.Code.{actOf, attemptOf, actedAs, triedAs, actedOut, triedOut}
+use Rattle.attempts.specs.Code.{actOf, attemptOf, actedOut, triedOut}
 use Rattle.attempts.proofs.ActLaws.{mapped, renamed}
 
 -- ---- an answer by its variant

@@ -16,7 +16,7 @@ use Rattle.isa.specs.declared.MonadicInstruction.{MonadicInstruction}
 use Rattle.isa.specs.Encode.{lengthOf}
 use Rattle.memory.specs.Answers.{answerOf}
 use Rattle.program.specs.Access.{Gave, gave}
-use Rattle.program.specs.Program.{Program, interpret}
+use Rattle.program.specs.Program.{interpret}
 use Rattle.program.specs.Journal.{Journaled, logging}
 use Rattle.machine.specs.Registers.{Bank}
 use Rattle.machine.specs.Cache.{Cache}
@@ -28,7 +28,7 @@ use Rattle.exec.specs.declared.Monadic.{Monadic}
 use Rattle.exec.specs.declared.Niladic.{Niladic}
 use Rattle.exec.specs.Control.{advanced}
 use Rattle.exec.specs.Dyadic.{dyadic}
-use Rattle.exec.specs.Execute.{Normal, twoOperands, oneOperand, shortNormal, taskOf, monadicOf, executeMonadic, executeNiladic, executeNormal, execute}
+use Rattle.exec.specs.Execute.{Normal, twoOperands, shortNormal, taskOf, monadicOf, executeMonadic, executeNiladic, executeNormal, execute}
 use Rattle.rows.specs.declared.ShortForm.{ShortForm}
 use Rattle.rows.specs.declared.ShortForm.the-variants.{Two, One, Zero}
 use Rattle.rows.specs.Rows.{formed}

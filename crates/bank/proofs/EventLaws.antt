@@ -1,18 +1,18 @@
 -- Laws of what is due: one for each way out.
 -- Assumes nothing.
-use mathlib.Core.Path.{_≡_, refl, sym, ap, _∙_}
-use mathlib.Core.Bool.{Bool, true, false, cond, not, _&&_}
-use Prim.Native.Nat.{ℕ, _+_, _-_, _^_, _<_, _≤_}
+use mathlib.Core.Path.{_≡_, sym, _∙_}
+use mathlib.Core.Bool.{Bool, true, false, not, _&&_}
+use Prim.Native.Nat.{ℕ, _+_, _-_, _<_, _≤_}
 use native.Mathlib.Omega.{arith}
 use lib.Dec.{eqb, ltb, leb}
 use lib.ListN.{set}
 use borrow.Author.Tests.{ne-eqb, eq-eqb, ltb-true, leb-true, not-true, le-leb, lt-leb}
-use Rattle.laws.proofs.Cases.{by-test, and-left, and-right}
+use Rattle.laws.proofs.Cases.{and-left, and-right}
 use Rattle.word.specs.Sums.{plusOf}
 use Rattle.machine.specs.Registers.{Bank, word, traceDue, timer1Due, timer2Due, nmiTaken}
 use Rattle.machine.specs.Cache.{Cache}
-use Rattle.machine.specs.Status.{Cpu, cpu}
-use Rattle.step.specs.Events.{Due, none, interrupt, timer1, timer2, trace, isDue, priority, dueOf, dueCode, looked}
+use Rattle.machine.specs.Status.{cpu}
+use Rattle.step.specs.Events.{none, interrupt, isDue, priority, dueOf, dueCode, looked}
 use Rattle.step.specs.Step.{traceFalls}
 use Rattle.bank.specs.Dues.{quietOf}
 

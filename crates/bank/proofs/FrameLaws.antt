@@ -1,6 +1,6 @@
 -- Laws of registers that are stored to: the PSW, and those of event sequences.
 -- Assumes nothing.
-use mathlib.Core.Path.{_≡_, refl, sym, ap, _∙_}
+use mathlib.Core.Path.{_≡_, refl, sym, _∙_}
 use mathlib.Core.Bool.{Bool, true, false}
 use Prim.Native.Nat.{ℕ, _*_, _/_}
 use lib.ListN.{set}

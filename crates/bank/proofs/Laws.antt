@@ -6,10 +6,8 @@ use Prim.Native.Nat.{ℕ, _+_, _-_, _≤_}
 use native.Mathlib.Omega.{arith}
 use lib.Dec.{eqb, ltb, leb}
 use borrow.Author.Tests.{ne-eqb}
-use Rattle.program.specs.Program.{Program}
 use Rattle.machine.specs.Registers.{Bank, traceDue, timer1Due, timer2Due, nmiTaken}
 use Rattle.machine.specs.Status.{Cpu}
-use Rattle.access.specs.Parts.{Out}
 use Rattle.exec.specs.Frames.{interruptSequence, exceptionSequence}
 use Rattle.step.specs.Events.{Due, none, interrupt, timer1, timer2, trace, isDue, priority, dueOf, dueCode, take, traceException}
 use Rattle.bank.specs.Dues.{dueFrom, takenOf, vectorOf, isTrace}

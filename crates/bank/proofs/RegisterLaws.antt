@@ -1,7 +1,6 @@
 -- Laws of registers written under a prefix: one for each way out.
 -- Assumes nothing.
 use mathlib.Core.Path.{_≡_, refl, sym, ap, _∙_}
-use mathlib.Core.Bool.{Bool, true, false, cond}
 use Prim.Native.Nat.{ℕ, _≤_}
 use native.Mathlib.Omega.{arith}
 use lib.ListN.{length, set}
@@ -9,7 +8,7 @@ use lib.Seq.{set-out}
 use borrow.Author.Tests.{ne-eqb, eq-eqb}
 use Rattle.machine.specs.Registers.{Bank, kept, id, isp, msp, shad, sp}
 use Rattle.machine.specs.Cache.{Cache}
-use Rattle.machine.specs.Status.{Cpu, cpu, with, csp}
+use Rattle.machine.specs.Status.{cpu, with, csp}
 use Rattle.exec.specs.Operands.{shadowed, writeRegister}
 
 pub put-none : (b : Bank) (q : Cache) (k v : ℕ) → length b ≡ 17 → 17 ≤ k → cpu b q ≡ with (cpu b q) k v

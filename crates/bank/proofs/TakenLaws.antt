@@ -1,17 +1,16 @@
 -- Laws of what is taken: one for each way out.
 -- Assumes nothing.
-use mathlib.Core.Path.{_≡_, refl, sym, ap, _∙_}
-use mathlib.Core.Bool.{Bool, true, false, cond}
+use mathlib.Core.Path.{_≡_, sym, ap, _∙_}
 use Prim.Native.Nat.{ℕ, _+_, _-_, _*_, _<_, _≤_}
 use native.Mathlib.Omega.{arith}
 use lib.Dec.{eqb}
 use lib.ListN.{set}
-use borrow.Author.Tests.{ne-eqb, eq-eqb, eqb-true, eqb-false}
+use borrow.Author.Tests.{ne-eqb, eqb-true, eqb-false}
 use Rattle.laws.proofs.Cases.{by-test}
 use Rattle.machine.specs.Registers.{Bank, traceDue, timer1Due, timer2Due, nmiTaken}
 use Rattle.machine.specs.Cache.{Cache}
-use Rattle.machine.specs.Status.{Cpu, cpu}
-use Rattle.step.specs.Events.{Due, none, interrupt, timer1, timer2, trace}
+use Rattle.machine.specs.Status.{cpu}
+use Rattle.step.specs.Events.{Due, none, interrupt}
 use Rattle.bank.specs.Dues.{dueFrom, takenOf, vectorOf}
 
 -- a number that is none of the four

@@ -1,7 +1,7 @@
 -- Laws of the timers: one for each way out.
 -- Assumes nothing.
-use mathlib.Core.Path.{_≡_, refl, sym, ap, _∙_}
-use mathlib.Core.Bool.{Bool, true, false, cond, _&&_}
+use mathlib.Core.Path.{_≡_, sym, ap, _∙_}
+use mathlib.Core.Bool.{Bool, true, false, _&&_}
 use Prim.Native.Nat.{ℕ}
 use lib.Dec.{eqb}
 use lib.ListN.{set}
@@ -9,7 +9,7 @@ use Rattle.word.specs.Sums.{plusOf}
 use Rattle.bits.specs.Bits.{bitOf}
 use Rattle.machine.specs.Registers.{Bank, word, timer1, timer2, timer1Due, timer2Due}
 use Rattle.machine.specs.Cache.{Cache}
-use Rattle.machine.specs.Status.{Cpu, cpu}
+use Rattle.machine.specs.Status.{cpu}
 use Rattle.step.specs.Timers.{counts1, counts2, ticked, counted}
 use Rattle.bank.specs.Counts.{firstCounted, secondCounted}
 

@@ -1,5 +1,4 @@
 // Registers in event sequences (1.11).
-use crate::flow::jumped;
 use alu::psw::masked;
 use machine::registers::kept;
 use machine::status::sp_current;
@@ -9,7 +8,7 @@ ghost use mathlib.Core.Path.{_≡_};
 ghost use Prim.Native.Nat.{_*_, _/_, _^_};
 ghost use Rattle.machine.specs.Registers.{word, isp, psw, shad};
 ghost use Rattle.machine.specs.Cache.{Cache};
-ghost use Rattle.machine.specs.Status.{cpu, with, reg};
+ghost use Rattle.machine.specs.Status.{cpu, with};
 ghost use Rattle.word.specs.Sums.{minusOf};
 ghost use Rattle.exec.specs.Control.{jumped as jumpedOf};
 ghost use Rattle.exec.specs.Frames.{returned as returnedOf, reset as resetOf};

@@ -1,6 +1,6 @@
 -- Masks and shifts as quotients and remainders.
 -- Assumes nothing.
-use mathlib.Core.Path.{_≡_, refl, sym, ap, _∙_}
+use mathlib.Core.Path.{_≡_, sym, ap, _∙_}
 use Prim.Native.Nat.{ℕ, max, _+_, _-_, _*_, _/_, _%_, _^_, _≤_, _<_}
 use native.Mathlib.Nat.{one-mul, add-zero, mod-lt, mod-eq-of-lt}
 use native.Mathlib.Omega.{arith}

@@ -1,6 +1,6 @@
 // Fields and bits of words, by shifts and masks.
 ghost use mathlib.Core.Path.{_≡_};
-ghost use Prim.Native.Nat.{_+_, _*_, _/_, _%_, _^_};
+ghost use Prim.Native.Nat.{_/_, _%_};
 ghost use Rattle.bits.specs.Bits.{fieldOf, bitOf, setOf, joinedOf};
 
 // count bits of x from bit low up; only the low five bits of low and count are used.

@@ -1,12 +1,12 @@
 -- What a trace and the timers change decides nothing about the stack.
 -- Assumes nothing.
 use Prim.Native.Nat.{ℕ}
-use mathlib.Core.Path.{_≡_, refl, ap, _∙_}
+use mathlib.Core.Path.{_≡_, refl, _∙_}
 use mathlib.Core.Bool.{Bool, true, false, cond, _&&_}
 use lib.Dec.{eqb}
 use Rattle.word.specs.Sums.{plusOf}
 use Rattle.bits.specs.Bits.{bitOf}
-use Rattle.machine.specs.Registers.{word, sp, msp, traceDue, timer1, timer2, timer1Due, timer2Due, stackHeld}
+use Rattle.machine.specs.Registers.{sp, msp, traceDue, timer1, timer2, timer1Due, timer2Due}
 use Rattle.machine.specs.Status.{Cpu, reg, with}
 use Rattle.machine.proofs.BankLaws.{word-set-other}
 use Rattle.step.specs.Timers.{counts1, counts2, ticked, counted}

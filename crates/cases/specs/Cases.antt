@@ -17,7 +17,7 @@ use Rattle.memory.specs.Bytes.{Memory, number, load, storeAnswer, storeMemory}
 use Rattle.mmu.specs.Walk.{route, walk, walkFrom, segment, segmentOf, nonpagedOf}
 use Rattle.program.specs.Access.{Gave, touch, follow, access}
 use Rattle.program.specs.Program.{interpret, after, plain}
-use Rattle.machine.specs.Registers.{Bank, isp, psw}
+use Rattle.machine.specs.Registers.{isp, psw}
 use Rattle.machine.specs.Status.{Cpu, cpu, reg}
 use Rattle.machine.specs.Record.{zeroCache}
 use Rattle.access.specs.Parts.{Out, ok, stop, onward, _>>=_, frameRequest}

@@ -1,15 +1,12 @@
 -- What the code answers to a list of confined runs, from the theorem on the definitions.
 -- Assumes nothing.
 use Prim.Native.Nat.{ℕ}
-use mathlib.Core.Path.{_≡_, refl, sym, ap, _∙_}
-use mathlib.Core.Bool.{true}
+use mathlib.Core.Path.{_≡_, sym, ap, _∙_}
 use mathlib.Core.List.{List, [], _∷_}
 use Rattle.memory.specs.Bytes.{Memory}
 use Rattle.machine.specs.declared.Machine.{Machine}
-use Rattle.machine.specs.Status.{Cpu}
 use Rattle.machine.specs.Record.{cpuOf}
 use Rattle.run.specs.Run.{Board, board, Ended}
-use Rattle.runs.specs.declared.running.Ran.{Ran}
 use Rattle.runs.specs.Code.{endedOf}
 use Rattle.isolation.specs.Course.{Order, confined, Report, report}
 use Rattle.isolation.specs.Isolation.{Same, SameRun, SameRuns}

@@ -1,11 +1,10 @@
 -- What an operation gives of destination and source: a word, and the flags it sets (1.8 and the pages of section 3.3).
 -- Assumes nothing.
 use Prim.Native.Nat.{ℕ, _+_, _*_, _/_, _%_, _^_}
-use mathlib.Core.Bool.{Bool, true, false, cond}
-use lib.Dec.{eqb}
+use mathlib.Core.Bool.{Bool, true, false}
 use lib.Bits.{bitAnd, bitOr, bitXor}
 use Rattle.bits.specs.Bits.{bitOf}
-use Rattle.word.specs.Sums.{plusOf, addOf, subOf, equalOf, greaterOf, higherOf}
+use Rattle.word.specs.Sums.{addOf, subOf, equalOf, greaterOf, higherOf}
 use Rattle.word.specs.Products.{mulOf, divOf, udivOf, uremOf}
 use Rattle.word.specs.Shifts.{shlOf, shrOf, ushrOf}
 use Rattle.machine.specs.Registers.{psw}

@@ -1,7 +1,7 @@
 -- Jumps, calls and returns, and the instructions without operands (CALL, JMP, LDRAA, POPN, RETURN, CLRE, TESTC, TESTV, NOP).
 -- Assumes nothing.
-use Prim.Native.Nat.{ℕ, _+_, _*_, _/_}
-use mathlib.Core.Bool.{Bool, true, false, cond, not, _&&_, _||_}
+use Prim.Native.Nat.{ℕ, _*_, _/_}
+use mathlib.Core.Bool.{Bool, false, cond, not, _&&_, _||_}
 use lib.Dec.{ltb}
 use Rattle.word.specs.declared.Width.the-variants.{Word}
 use Rattle.word.specs.Sums.{plusOf}
@@ -10,7 +10,7 @@ use Rattle.isa.specs.declared.MonadicMode.the-variants.{WordAbsolute, WordStack
 use Rattle.program.specs.Program.{Program}
 use Rattle.machine.specs.Registers.{pc, psw, msp, shad}
 use Rattle.machine.specs.Status.{Cpu, reg, with, csp, spCurrent, cacheOn}
-use Rattle.access.specs.Parts.{Out, ok, stop, done, _>>=_}
+use Rattle.access.specs.Parts.{Out, done, _>>=_}
 use Rattle.access.specs.Data.{readData, writeData}
 use Rattle.exec.specs.Alu.{withBitAs, flagBit, pswBit}
 use Rattle.exec.specs.Operands.{stackAddress, writeAccumulator}

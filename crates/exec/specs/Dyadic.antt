@@ -1,6 +1,6 @@
 -- Instructions of two operands: source, destination, zero divide, write, in document 01's order.
 -- Assumes nothing.
-use Prim.Native.Nat.{ℕ, zero, suc, _+_, _*_, _%_}
+use Prim.Native.Nat.{ℕ, zero, suc, _*_, _%_}
 use mathlib.Core.Bool.{Bool, true, false, cond, _&&_}
 use mathlib.Core.List.{List, [], _∷_}
 use lib.Dec.{eqb}
@@ -15,13 +15,13 @@ use Rattle.program.specs.Access.{alignmentFault}
 use Rattle.program.specs.Program.{Program, ret}
 use Rattle.machine.specs.Registers.{psw}
 use Rattle.machine.specs.Status.{Cpu, reg, with}
-use Rattle.access.specs.Parts.{Out, ok, stop, done, _>>=_}
+use Rattle.access.specs.Parts.{Out, stop, done, _>>=_}
 use Rattle.access.specs.Data.{readData, writeData}
 use Rattle.exec.specs.declared.Operation.{Operation}
 use Rattle.exec.specs.declared.Relation.{Relation}
 use Rattle.exec.specs.declared.Task.{Task}
 use Rattle.exec.specs.declared.Task.the-variants.{Compute, Accumulate, Interlock, Compare, TaggedAdd, TaggedSub, Move, MoveAddress, MoveWords}
-use Rattle.exec.specs.Alu.{Result, operate, divides, zeroDivide, related, withFlags, withFlag, pswBit, flagBit, carryBit, overflowBit, withBitAs}
+use Rattle.exec.specs.Alu.{operate, divides, zeroDivide, related, withFlags, withFlag, pswBit, flagBit, carryBit, overflowBit, withBitAs}
 use Rattle.exec.specs.Operands.{Place, inMemory, inRegister, literal, locate, readPlace, readOperand, writePlace, writeRegister, writeAccumulator, checkRegisters}
 
 -- "Division by zero results in a zero divide exception"

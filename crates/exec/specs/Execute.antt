@@ -1,7 +1,7 @@
 -- What each row of the encodings lists does, and the instruction as a program.
 -- Assumes nothing.
 use Prim.Native.Nat.{ℕ}
-use mathlib.Core.Bool.{Bool, true, false, not}
+use mathlib.Core.Bool.{false, not}
 use Rattle.isa.specs.declared.ShortRow.{ShortRow}
 use Rattle.isa.specs.declared.ShortRow.the-variants as short
 use Rattle.isa.specs.declared.DyadicRow.{DyadicRow}
@@ -20,7 +20,7 @@ use Rattle.isa.specs.declared.Instruction.the-variants as instruction
 use Rattle.isa.specs.Encode.{lengthOf}
 use Rattle.program.specs.Program.{Program}
 use Rattle.machine.specs.Status.{Cpu}
-use Rattle.access.specs.Parts.{Out, ok, stop, done, _>>=_}
+use Rattle.access.specs.Parts.{Out, done, _>>=_}
 use Rattle.exec.specs.declared.Operation.the-variants.{Add, Sub, Mul, Div, Rem, Udiv, Urem, And, Or, Xor, Shl, Shr, Ushr}
 use Rattle.exec.specs.declared.Relation.the-variants.{Equal, Greater, Higher}
 use Rattle.exec.specs.declared.Task.{Task}

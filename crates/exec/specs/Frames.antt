@@ -1,18 +1,17 @@
 -- Event frames, vectors and the reset (1.11): KCALL, KRET, CRET, interrupts, exceptions, unimplemented instructions.
 -- Assumes nothing.
 use Prim.Native.Nat.{ℕ, _+_, _*_, _/_, _^_}
-use mathlib.Core.Bool.{Bool, true, false, cond, not, _&&_}
-use lib.Dec.{eqb}
+use mathlib.Core.Bool.{cond}
 use Rattle.word.specs.declared.Width.the-variants.{Word}
 use Rattle.word.specs.Sums.{plusOf, minusOf}
 use Rattle.bits.specs.Bits.{bitOf}
 use Rattle.isa.specs.declared.MonadicMode.{MonadicMode}
 use Rattle.mmu.specs.declared.Regime.{Regime}
-use Rattle.program.specs.Program.{Program, ret, after}
+use Rattle.program.specs.Program.{Program, ret}
 use Rattle.machine.specs.Registers.{config, isp, msp, pc, psw, shad, sp, stb, vb, traceDue, timer1Due, timer2Due, kept}
 use Rattle.machine.specs.Status.{Cpu, reg, with, csp, spCurrent, isUser}
-use Rattle.access.specs.Parts.{Out, ok, stop, done, _>>=_}
-use Rattle.access.specs.Data.{readData, writeData, readFrame, writeFrame}
+use Rattle.access.specs.Parts.{Out, stop, done, _>>=_}
+use Rattle.access.specs.Data.{writeData, readFrame, writeFrame}
 use Rattle.exec.specs.Operands.{privilegeViolation}
 use Rattle.exec.specs.Control.{readWord32, jumped, nextPc}
 use Rattle.exec.specs.Stack.{catchTo}

@@ -1,6 +1,6 @@
 -- Operands of dyadics: where they are, how they are read and written (1.7, Tables 1-21, 1-22 and 1-24).
 -- Assumes nothing.
-use Prim.Native.Nat.{ℕ, _+_, _*_, _/_, _^_}
+use Prim.Native.Nat.{ℕ, _*_, _/_, _^_}
 use mathlib.Core.Bool.{Bool, true, false, cond, _&&_, _||_}
 use lib.Dec.{eqb}
 use Rattle.word.specs.declared.Width.{Width}
@@ -18,7 +18,7 @@ use Rattle.isa.specs.Legal.{isRegister}
 use Rattle.program.specs.Program.{Program, ret}
 use Rattle.machine.specs.Registers.{config, id, isp, pc, msp, shad, sp, bankSize, registerOf, kept}
 use Rattle.machine.specs.Status.{Cpu, reg, with, csp, isUser}
-use Rattle.access.specs.Parts.{Out, ok, stop, done, _>>=_}
+use Rattle.access.specs.Parts.{Out, stop, done, _>>=_}
 use Rattle.access.specs.Data.{readData, writeData}
 
 abbrev pub widthOf : Mode → Width

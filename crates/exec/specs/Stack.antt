@@ -1,7 +1,7 @@
 -- ENTER and CATCH: the stack cache is flushed and filled (1.4.2).
 -- Assumes nothing.
 use Prim.Native.Nat.{ℕ, _*_, _/_}
-use mathlib.Core.Bool.{Bool, true, false, cond, not, _&&_}
+use mathlib.Core.Bool.{true, false, cond, not}
 use lib.Dec.{ltb, eqb}
 use Rattle.word.specs.declared.Width.the-variants.{Word}
 use Rattle.word.specs.Sums.{plusOf, minusOf}
@@ -13,9 +13,9 @@ use Rattle.program.specs.Program.{Program}
 use Rattle.mmu.specs.declared.Regime.{Regime}
 use Rattle.machine.specs.Registers.{msp, sp}
 use Rattle.machine.specs.Status.{Cpu, reg, with, spCurrent, cacheOn, regime}
-use Rattle.access.specs.Parts.{Out, ok, stop, done, request, _>>=_}
+use Rattle.access.specs.Parts.{Out, done, request, _>>=_}
 use Rattle.access.specs.Data.{readData, checkStore}
-use Rattle.access.specs.Moves.{scsize, mayFlush, flush, fill}
+use Rattle.access.specs.Moves.{scsize, flush, fill}
 use Rattle.exec.specs.Operands.{stackAddress}
 use Rattle.exec.specs.Control.{withCsp, withGuard, advanced}
 

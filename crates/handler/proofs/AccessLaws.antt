@@ -3,7 +3,7 @@
 use Prim.Native.Nat.{ℕ, _+_, _/_, _*_, _%_, _^_, _<_, _≤_}
 use mathlib.Core.Path.{_≡_, refl, sym, ap, _∙_}
 use mathlib.Core.Bool.{Bool, true, false, cond}
-use mathlib.Core.List.{List, []}
+use mathlib.Core.List.{List}
 use native.Mathlib.Nat.{mod-eq-of-lt}
 use native.Mathlib.Omega.{arith}
 use lib.ListN.{length}
@@ -12,7 +12,7 @@ use borrow.Author.Tests.{le-leb, lt-leb, eq-eqb, ne-eqb}
 use Rattle.word.specs.declared.Width.{Width}
 use Rattle.word.specs.declared.Width.the-variants.{Byte, Half, Word}
 use Rattle.word.specs.Widths.{bytesOf}
-use Rattle.memory.specs.Answers.{Answer, got, bad, busFault}
+use Rattle.memory.specs.Answers.{Answer, got, bad}
 use Rattle.memory.specs.Bytes.{Memory, load, holds, storeAnswer, storeMemory, Effect, done, storeOf}
 use Rattle.mmu.specs.declared.Kind.{Kind}
 use Rattle.mmu.specs.declared.Kind.the-variants.{Fetch, Read, Write}

@@ -1,16 +1,15 @@
 -- The ways out of the journal's functions and of the accesses, as laws of the definitions.
 -- Assumes nothing.
-use Prim.Native.Nat.{ℕ, _+_, _/_, _*_, _%_, _^_, _<_, _≤_}
-use mathlib.Core.Path.{_≡_, refl, sym, ap, _∙_}
-use mathlib.Core.Bool.{Bool, true, false, cond}
+use Prim.Native.Nat.{ℕ, _+_, _<_, _≤_}
+use mathlib.Core.Path.{_≡_, refl, sym, _∙_}
+use mathlib.Core.Bool.{Bool, true, false}
 use mathlib.Core.List.{List}
-use native.Mathlib.Omega.{arith}
 use lib.ListN.{getD, set, length}
-use borrow.Author.Tests.{lt-ltb, le-ltb, le-leb, lt-leb, eq-eqb, ne-eqb}
+use borrow.Author.Tests.{lt-ltb, le-ltb, le-leb, lt-leb}
 use Rattle.memory.specs.Bytes.{Memory}
 use Rattle.mmu.specs.declared.Kind.{Kind}
 use Rattle.mmu.specs.Walk.{fresh, recorded}
-use Rattle.program.specs.Journal.{Journal, journal, fourBytes, note, entryNote, Journaled, journaled}
+use Rattle.program.specs.Journal.{journal, fourBytes, note, entryNote, journaled}
 
 module _ (a : ℕ) (m : Memory) (p : List ℕ) (w : List (List ℕ)) where
   pub note-made : getD p 0 0 < 200 → a + 4 ≤ length m

@@ -1,6 +1,6 @@
 -- The accesses to the words of a quad-word that one walk has found.
 -- Assumes nothing.
-use Prim.Native.Nat.{ℕ, _+_, _/_, _*_, _%_, _^_, _<_, _≤_}
+use Prim.Native.Nat.{ℕ, _+_, _/_, _%_, _^_, _<_, _≤_}
 use mathlib.Core.Path.{_≡_, refl, sym, ap, _∙_}
 use mathlib.Core.Logic.{_⊎_, inl, inr}
 use mathlib.Core.Bool.{Bool, true, false, not}
@@ -11,7 +11,7 @@ use lib.ListN.{length}
 use borrow.Author.Tests.{le-leb, eq-eqb}
 use Rattle.word.specs.declared.Width.the-variants.{Word}
 use Rattle.memory.specs.Answers.{Answer, got, answerOf}
-use Rattle.memory.specs.Bytes.{Memory, byteAt, number, holds, load, stored, storeAnswer, storeMemory}
+use Rattle.memory.specs.Bytes.{Memory, number, holds, load, stored, storeAnswer, storeMemory}
 use Rattle.memory.proofs.AnswerLaws.{answer-high}
 use Rattle.memory.proofs.Laws.{length-stored, byte-other, number-other}
 use Rattle.mmu.specs.declared.Kind.{Kind}

@@ -1,7 +1,7 @@
 -- An access after its walk, on memory and journal together.
 -- Assumes nothing.
 use mathlib.Core.Bool.{Bool, true}
-use mathlib.Core.List.{List, []}
+use mathlib.Core.List.{[]}
 use Prim.Native.Nat.{ℕ, _%_}
 use lib.Dec.{eqb}
 use Rattle.word.specs.declared.Width.{Width}

@@ -17,7 +17,6 @@ use word::Width;
 ghost use mathlib.Core.Path.{_≡_};
 ghost use mathlib.Core.Bool.{true};
 ghost use Prim.Native.Nat.{_+_, _*_, _/_, _%_};
-ghost use Rattle.word.specs.Widths.{bytesOf};
 ghost use Rattle.memory.specs.Answers.{answerOf};
 ghost use Rattle.mmu.specs.declared.Kind.the-variants as kind;
 ghost use Rattle.mmu.specs.declared.Walk.the-variants as walked;
@@ -84,7 +83,7 @@ pub fn read(
 }
 
 // A store into the word of pa, which is noted.
-pub(crate) fn store_noted(
+pub fn store_noted(
     m: &mut [u8],
     places: &mut [u32; 201],
     words: &mut [[u8; 4]; 200],

@@ -1,6 +1,6 @@
 -- The loops that copy bytes, and the calls over them.
 -- Assumes nothing.
-use Prim.Native.Nat.{ℕ, suc, _+_, _-_, _<_, _≤_}
+use Prim.Native.Nat.{ℕ, _+_, _-_, _<_, _≤_}
 use mathlib.Core.Path.{_≡_, refl, sym, ap, _∙_}
 use mathlib.Core.List.{List, [], _∷_, _++_}
 use native.Mathlib.Numerals.{add-one}
@@ -11,7 +11,7 @@ use borrow.Author.Tests.{le-leb, lt-leb}
 use Rattle.machine.proofs.Flat.{Front, front-more, front-all}
 use Rattle.lines.specs.Answers.{written}
 use Rattle.lines.specs.Stores.{stored}
-use Rattle.lines.proofs.AnswerLaws.{length-written, written-on}
+use Rattle.lines.proofs.AnswerLaws.{written-on}
 use Rattle.hobbit.specs.Bytes.{storedAt, loadedFrom}
 
 -- k bytes of t are in memory from a on

@@ -9,7 +9,6 @@ use Rattle.machine.specs.declared.Machine.{Machine}
 use Rattle.machine.specs.Record.{bankOf, machineOf, zeroCache}
 use Rattle.memory.specs.Bytes.{Memory}
 use Rattle.run.specs.Run.{Board, board, Ended, ended}
-use Rattle.runs.specs.Code.{Advanced}
 use Rattle.hobbit.specs.declared.HobbitAnswer.{HobbitAnswer}
 
 -- the machine in two blocks: a word of what is due counts if it is 1
@@ -26,6 +25,3 @@ boardIn r c m = board (cpu r (quadsOf c)) m
 
 abbrev pub answeredBy : HobbitAnswer → Board → Ended
 answeredBy x s = ended (x .steps) (x .stop) (x .code) s
-
-abbrev pub advancedAs : ℕ → Board → Advanced
-advancedAs r s = record { refusal = r; left = s }

@@ -7,15 +7,15 @@ use lib.ListN.{length, take, drop}
 use lib.Dec.{leb}
 use Rattle.memory.specs.Bytes.{Memory}
 use Rattle.lines.specs.Answers.{written}
-use Rattle.lines.specs.Stores.{Stored, stored}
+use Rattle.lines.specs.Stores.{Stored, stored, offBoard}
 
--- "off the board"
+-- whether bytes from a on lie in memory
 abbrev pub within : Memory → ℕ → List ℕ → Bool
 within m a t = leb (a + length t) (length m)
 
 unfoldable pub storedAt : Memory → ℕ → List ℕ → Stored
-storedAt m a t = cond (within m a t) (stored 0 (written m a t)) (stored 8 m)
+storedAt m a t = cond (within m a t) (stored 0 (written m a t)) (stored offBoard m)
 
 -- t is the room
 unfoldable pub loadedFrom : Memory → ℕ → List ℕ → Stored
-loadedFrom m a t = cond (within m a t) (stored 0 (take (length t) (drop a m))) (stored 8 t)
+loadedFrom m a t = cond (within m a t) (stored 0 (take (length t) (drop a m))) (stored offBoard t)

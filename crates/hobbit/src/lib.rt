@@ -18,8 +18,8 @@ ghost use Rattle.machine.specs.Cache.{quadsOf};
 ghost use Rattle.machine.specs.Status.{cpu};
 ghost use Rattle.machine.specs.Record.{cpuOf, zeroCache, reading, readingOf};
 ghost use Rattle.run.specs.Run.{board, run as runOf};
-ghost use Rattle.runs.specs.Code.{oneStep};
-ghost use Rattle.hobbit.specs.Blocks.{bankIn, machineIn, boardIn, answeredBy, advancedAs};
+ghost use Rattle.runs.specs.Code.{advanced, oneStep};
+ghost use Rattle.hobbit.specs.Blocks.{bankIn, machineIn, boardIn, answeredBy};
 
 // What an 83 line carries but PC and PSW, which are words of the registers.
 #[repr(C)]
@@ -70,7 +70,7 @@ pub extern "C" fn hobbit_step(
     cache: &mut [u32; 64],
     level: u32,
 ) -> u32
-    ensures { λ x. ⌜ advancedAs x (boardIn (now (registers .exit)) (now (cache .exit)) (now (memory .exit))) ≡ oneStep level (board (cpuOf (machineIn (now (registers .entry)) (now (cache .entry)))) (now (memory .entry))) ⌝ }
+    ensures { λ x. ⌜ advanced x (boardIn (now (registers .exit)) (now (cache .exit)) (now (memory .exit))) ≡ oneStep level (board (cpuOf (machineIn (now (registers .entry)) (now (cache .entry)))) (now (memory .entry))) ⌝ }
 {
     let begun = machine_in(registers, cache);
     let x = step(begun, memory, level);

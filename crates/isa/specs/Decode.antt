@@ -22,15 +22,12 @@ use Rattle.isa.specs.declared.Wide.the-variants.{Three, Five}
 use Rattle.isa.specs.declared.Rule.the-variants.{OneRegister}
 use Rattle.isa.specs.declared.DyadicEntry.{DyadicEntry}
 use Rattle.isa.specs.declared.DyadicEntry.the-variants as wide
-use Rattle.isa.specs.declared.DyadicInstruction.{DyadicInstruction}
 use Rattle.isa.specs.declared.MonadicRow.{MonadicRow}
 use Rattle.isa.specs.declared.MonadicRule.{MonadicRule}
-use Rattle.isa.specs.declared.MonadicMode.{MonadicMode}
 use Rattle.isa.specs.declared.MonadicModeEntry.{MonadicModeEntry}
 use Rattle.isa.specs.declared.MonadicModeEntry.the-variants as place
 use Rattle.isa.specs.declared.MonadicEntry.{MonadicEntry}
 use Rattle.isa.specs.declared.MonadicEntry.the-variants as single
-use Rattle.isa.specs.declared.MonadicInstruction.{MonadicInstruction}
 use Rattle.isa.specs.declared.Instruction.the-variants as instruction
 use Rattle.isa.specs.declared.Text.{Text}
 use Rattle.isa.specs.declared.Answer.{Answer}

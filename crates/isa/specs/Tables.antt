@@ -1,6 +1,6 @@
 -- Tables 1-15 to 1-23: what the decoder finds at each opcode, subcode and mode number.
 use Prim.Native.Nat.{ℕ, _-_}
-use mathlib.Core.Bool.{Bool, true, false, cond}
+use mathlib.Core.Bool.{cond}
 use mathlib.Core.List.{List, [], _∷_}
 use lib.ListN.{getD}
 use lib.Dec.{ltb}

@@ -1,15 +1,13 @@
 -- The walks of a quad-word's bytes end in one page, one beside the other.
 -- Assumes nothing.
-use mathlib.Core.Path.{_≡_, refl, sym, ap, _∙_}
+use mathlib.Core.Path.{_≡_, refl, ap}
 use mathlib.Core.Bool.{Bool, true, false, cond, _&&_}
 use Prim.Native.Nat.{ℕ, _+_, _*_, _/_, _%_, _<_}
 use native.Mathlib.Omega.{arith}
 use lib.ListN.{length}
 use Rattle.memory.specs.Bytes.{Memory, number}
 use Rattle.mmu.specs.declared.Kind.{Kind}
-use Rattle.mmu.specs.declared.Segment.the-variants.{Table}
-use Rattle.mmu.specs.declared.Walk.{Walk}
-use Rattle.mmu.specs.declared.Walk.the-variants.{Fault, Direct, Paged}
+use Rattle.mmu.specs.declared.Walk.the-variants.{Fault, Paged}
 use Rattle.mmu.specs.Walk.{faultOf, segmentPlace, pagePlace, valid, permits, segmentOf, segment, pageOf, walkFrom, walk}
 use Rattle.mmu.proofs.Shape.{walk-paged}
 

@@ -70,7 +70,7 @@ pub fn page(user: bool, k: Kind, va: u32, p: u32, e: u32) -> Walk
 
 // The second stage. A page entry that the first stage gives lies in memory, so its load has a value. (stb stands in
 // the contract alone.)
-pub fn second_stage(m: &[u8], user: bool, stb: u32, k: Kind, va: u32, s: Segment) -> Walk
+fn second_stage(m: &[u8], user: bool, stb: u32, k: Kind, va: u32, s: Segment) -> Walk
     requires { ⌜ s ≡ segment stb va (now m) ⌝ }
     ensures { λ r. ⌜ r ≡ walk user stb k va (now (m .entry)) ⌝ }
 {

@@ -2,8 +2,8 @@
 use access::faults::set_fault;
 use handler::accesses::read;
 use handler::quads::quad_place;
-use handler::quads::read_beside;
 use memory::answers::low32;
+use memory::loads::load_word;
 use mmu::Kind;
 use word::Width;
 use word::sums::minus;
@@ -11,10 +11,11 @@ use word::sums::plus;
 ghost use mathlib.Core.Path.{_≡_};
 ghost use mathlib.Core.Bool.{true};
 ghost use mathlib.Core.List.{List};
-ghost use Prim.Native.Nat.{ℕ};
+ghost use Prim.Native.Nat.{ℕ, _+_, _%_, _^_, _<_};
+ghost use Rattle.word.specs.declared.Width.the-variants as width;
 ghost use Rattle.memory.specs.Answers.{answerOf};
 ghost use Rattle.mmu.specs.declared.Kind.the-variants as kind;
-ghost use Rattle.program.specs.Access.{gave};
+ghost use Rattle.program.specs.Access.{gave, read as reads};
 ghost use Rattle.program.specs.Program.{interpret};
 ghost use Rattle.program.specs.Journal.{journaled, logging};
 ghost use Rattle.machine.specs.Status.{cpu};
@@ -64,6 +65,15 @@ fn fill_words(
     q[i] = [low32(x0), low32(x1), low32(x2), low32(x3)];
     r[4] = plus(a, 16);
     x3
+}
+
+// The word i bytes on in the quad-word at a that `quad_place` found at pa. (stb, user and a stand in the contract
+// alone.)
+fn read_beside(m: &[u8], stb: u32, user: bool, a: u32, pa: u32, i: u32) -> u64
+    requires { ⌜ Quad user stb kind.Read a (now m) pa × (i < 16) × (i % 4 ≡ 0) ⌝ }
+    ensures { λ x. ⌜ ((o : List ℕ) (w : List (List ℕ)) → gave (answerOf x) (journaled (now (m .entry)) o w) ≡ logging (reads (regimeFor stb user true) width.Word (a + i)) (journaled (now (m .entry)) o w)) × (x < 2 ^ 32) ⌝ }
+{
+    load_word(m, pa + i)
 }
 
 // The quad-word at a, found at pa.

@@ -1,7 +1,7 @@
 // Flushing: quad-words of the stack cache to memory, from MSP down.
 use access::faults::set_fault;
+use handler::accesses::store_noted;
 use handler::quads::quad_place;
-use handler::quads::write_beside;
 use machine::cache::cache_word;
 use machine::status::is_user;
 use machine::status::is_virtual;
@@ -13,9 +13,11 @@ use word::sums::plus;
 ghost use mathlib.Core.Path.{_≡_};
 ghost use mathlib.Core.Bool.{true};
 ghost use lib.ListN.{set};
+ghost use Prim.Native.Nat.{_+_, _%_, _^_, _<_};
+ghost use Rattle.word.specs.declared.Width.the-variants as width;
 ghost use Rattle.memory.specs.Answers.{answerOf};
 ghost use Rattle.mmu.specs.declared.Kind.the-variants as kind;
-ghost use Rattle.program.specs.Access.{gave};
+ghost use Rattle.program.specs.Access.{gave, write as writes};
 ghost use Rattle.program.specs.Program.{interpret};
 ghost use Rattle.program.specs.Journal.{journaled, logging};
 ghost use Rattle.machine.specs.Registers.{Bank};
@@ -86,6 +88,24 @@ fn flush_words(
     }
     r[4] = a;
     x3
+}
+
+// The word v stored i bytes on in the quad-word at a that `quad_place` found at pa, which keeps its place.
+fn write_beside(
+    m: &mut [u8],
+    places: &mut [u32; 201],
+    words: &mut [[u8; 4]; 200],
+    stb: u32,
+    user: bool,
+    a: u32,
+    pa: u32,
+    i: u32,
+    v: u32,
+) -> u64
+    requires { ⌜ Quad user stb kind.Write a (now m) pa × (i < 16) × (i % 4 ≡ 0) ⌝ }
+    ensures { λ x. ⌜ (gave (answerOf x) (journaled (now (m .exit)) (now (places .exit)) (now (words .exit))) ≡ logging (writes (regimeFor stb user true) width.Word (a + i) v) (journaled (now (m .entry)) (now (places .entry)) (now (words .entry)))) × Quad user stb kind.Write a (now (m .exit)) pa × (x < 2 ^ 32) ⌝ }
+{
+    store_noted(m, places, words, Width::Word, pa + i, v)
 }
 
 // The words of the quad-word at a, found at pa.

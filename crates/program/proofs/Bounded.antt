@@ -3,7 +3,7 @@
 use Prim.Native.Nat.{ℕ, zero, suc, _+_, _≤_}
 use native.Mathlib.Omega.{arith}
 use Rattle.memory.specs.Answers.{Answer}
-use Rattle.program.specs.Access.{Access, Gave}
+use Rattle.program.specs.Access.{Access}
 use Rattle.program.specs.Program.{Program, ret, ask, Handler, interpret, after}
 
 -- at most n accesses, each in Q, and a result in P

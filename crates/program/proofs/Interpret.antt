@@ -1,8 +1,7 @@
 -- Laws of programs over any world.
 -- Assumes nothing.
 use mathlib.Core.Path.{_≡_, refl}
-use Rattle.memory.specs.Answers.{Answer}
-use Rattle.program.specs.Access.{Access, Gave, gave}
+use Rattle.program.specs.Access.{Access, Gave}
 use Rattle.program.specs.Program.{Program, ret, ask, Handler, interpret, after}
 
 -- one program after another is interpreted one after another

@@ -1,7 +1,7 @@
 -- What a route tells of its physical address and of its page entry.
 -- Assumes nothing.
 use Prim.Native.Nat.{ℕ, _+_, _*_, _/_, _%_}
-use mathlib.Core.Path.{_≡_, refl, sym, ap, _∙_}
+use mathlib.Core.Path.{_≡_, refl}
 use mathlib.Core.Bool.{Bool, true, false, cond, _&&_}
 use native.Mathlib.Omega.{arith}
 use lib.Dec.{leb}
@@ -13,7 +13,7 @@ use Rattle.mmu.specs.declared.Walk.{Walk}
 use Rattle.mmu.specs.declared.Walk.the-variants.{Fault, Direct, Paged}
 use Rattle.mmu.specs.declared.Regime.{Regime}
 use Rattle.mmu.proofs.Shape.{segment-table}
-use Rattle.mmu.specs.Walk.{faultOf, segmentPlace, pagePlace, valid, nonpaged, segmentOf, segment, permits, nonpagedOf, pageOf, walkFrom, walk, route}
+use Rattle.mmu.specs.Walk.{faultOf, valid, segment, permits, nonpagedOf, pageOf, walkFrom, walk, route}
 
 -- a walk that ends at an address keeps its place in the word, and a page entry lies in memory
 abbrev pub Ends : Memory → ℕ → Walk → Type 0

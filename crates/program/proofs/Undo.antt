@@ -1,17 +1,15 @@
 -- The journal puts memory back exactly, whatever program was interpreted, if it asks for no more than the journal has room for.
 -- Assumes nothing.
-use Prim.Native.Nat.{ℕ, zero, suc, _+_, _*_, _/_, _%_, _<_, _≤_, min}
+use Prim.Native.Nat.{ℕ, zero, suc, _+_, _<_, _≤_, min}
 use native.Mathlib.Nat.{min-eq-left, le-of-lt}
 use mathlib.Core.Path.{_≡_, refl, sym, ap, _∙_}
-use mathlib.Core.Bool.{Bool, true, false, cond, _&&_}
-use mathlib.Core.List.{List, [], _∷_}
-use mathlib.Core.Logic.{_⊎_, inl, inr}
+use mathlib.Core.Bool.{true}
+use mathlib.Core.List.{List, []}
 use native.Mathlib.Omega.{arith}
-use native.Mathlib.Decide.{ℕ-discrete, decLt}
+use native.Mathlib.Decide.{ℕ-discrete}
 use lib.ListN.{getD, set, length, length-set}
 use lib.Seq.{getD-set-same, getD-set-other, ext-getD}
-use lib.Dec.{ltb, leb}
-use borrow.Author.Tests.{lt-ltb, leb-true, le-leb}
+use borrow.Author.Tests.{lt-ltb}
 use Rattle.memory.specs.Bytes.{Memory, byteAt, holds}
 use Rattle.program.specs.Journal.{Journal, journal, room, count, fourBytes, note, restored, undone, undo}
 

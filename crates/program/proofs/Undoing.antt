@@ -1,20 +1,18 @@
 -- Every access, and so every program of few enough of them, can be undone from its journal.
 -- Assumes nothing.
 use Prim.Native.Nat.{ℕ, zero, suc, _+_, _*_, _/_, _%_, _<_, _≤_}
-use mathlib.Core.Path.{_≡_, refl, sym, ap, _∙_}
+use mathlib.Core.Path.{_≡_, refl, ap, _∙_}
 use mathlib.Core.Bool.{Bool, true, false, cond}
 use mathlib.Core.Logic.{_⊎_, inl, inr}
 use native.Mathlib.Omega.{arith}
 use native.Mathlib.Decide.{decLt}
 use lib.ListN.{set, length, length-set}
 use lib.Seq.{getD-set-other}
-use lib.Dec.{leb, eqb}
 use borrow.Author.Tests.{leb-true, le-leb, eqb-true}
-use Rattle.laws.proofs.Cases.{by-test}
 use Rattle.word.specs.declared.Width.{Width}
 use Rattle.word.specs.declared.Width.the-variants.{Byte, Half, Word}
 use Rattle.word.specs.Widths.{bytesOf}
-use Rattle.memory.specs.Answers.{Answer, bad}
+use Rattle.memory.specs.Answers.{bad}
 use Rattle.memory.specs.Bytes.{Memory, byteAt, holds, stored, storeMemory}
 use Rattle.memory.proofs.Laws.{length-stored, byte-other}
 use Rattle.mmu.specs.declared.Kind.{Kind}
@@ -22,7 +20,7 @@ use Rattle.mmu.specs.declared.Kind.the-variants.{Fetch, Read, Write}
 use Rattle.mmu.specs.declared.Walk.{Walk}
 use Rattle.mmu.specs.declared.Walk.the-variants.{Fault, Direct, Paged}
 use Rattle.mmu.specs.Walk.{route, marked, fresh, recorded}
-use Rattle.program.specs.Access.{Access, fetch, read, write, probe, regimeOf, kindOf, addressOf, aligned, alignmentFault, Gave, gave, touch, noted, follow, access, faultAs}
+use Rattle.program.specs.Access.{Access, fetch, read, write, probe, regimeOf, kindOf, addressOf, aligned, alignmentFault, gave, touch, noted, follow, access}
 use Rattle.program.specs.Program.{Program, ret, ask, interpret, plain}
 use Rattle.program.specs.Journal.{room, count, note, undo, touchNote, entryNote, walkNote, followNote, accessNote, Journaled, logging}
 use Rattle.program.proofs.Bounded.{Bounded}

@@ -1,10 +1,9 @@
 -- One access to memory: alignment, translation, recording, and the touch itself, in this order.
 -- Assumes nothing.
-use Prim.Native.Nat.{ℕ, _+_, _*_, _/_, _%_, _^_}
-use mathlib.Core.Bool.{Bool, true, false, cond}
+use Prim.Native.Nat.{ℕ, _*_, _/_, _%_, _^_}
+use mathlib.Core.Bool.{Bool, cond}
 use lib.Dec.{eqb}
 use Rattle.word.specs.declared.Width.{Width}
-use Rattle.word.specs.declared.Width.the-variants.{Byte, Half, Word}
 use Rattle.word.specs.Widths.{bytesOf}
 use Rattle.memory.specs.Answers.{Answer, got, bad}
 use Rattle.memory.specs.Bytes.{Memory, load, storeAnswer, storeMemory}

@@ -1,18 +1,17 @@
 -- The journal of a step: the place of each word that changes with its four bytes of before, so that a refused step leaves nothing.
 -- Assumes nothing.
 use Prim.Native.Nat.{ℕ, zero, suc, _+_, _*_, _/_, min}
-use mathlib.Core.Bool.{Bool, true, false, cond, _&&_}
+use mathlib.Core.Bool.{cond, _&&_}
 use mathlib.Core.List.{List, [], _∷_}
-use lib.ListN.{getD, set, length}
+use lib.ListN.{getD, set}
 use lib.Dec.{ltb}
 use Rattle.word.specs.Widths.{bytesOf}
-use Rattle.memory.specs.Answers.{Answer}
 use Rattle.memory.specs.Bytes.{Memory, byteAt, holds}
 use Rattle.mmu.specs.declared.Kind.{Kind}
 use Rattle.mmu.specs.declared.Walk.{Walk}
 use Rattle.mmu.specs.declared.Walk.the-variants.{Fault, Direct, Paged}
 use Rattle.mmu.specs.Walk.{route, fresh}
-use Rattle.program.specs.Access.{Access, fetch, read, write, probe, regimeOf, kindOf, addressOf, aligned, Gave, gave, noted, access}
+use Rattle.program.specs.Access.{Access, fetch, read, write, probe, regimeOf, kindOf, addressOf, aligned, gave, noted, access}
 use Rattle.program.specs.Program.{Handler}
 
 -- places holds the number of entries and then their addresses, words their bytes

@@ -1,6 +1,5 @@
 -- A program of accesses: it asks, and goes on with the answers. It sees memory in no other way.
 -- Assumes nothing.
-use mathlib.Core.Path.{_≡_, refl}
 use Rattle.memory.specs.Answers.{Answer}
 use Rattle.memory.specs.Bytes.{Memory}
 use Rattle.program.specs.Access.{Access, Gave, gave, access}

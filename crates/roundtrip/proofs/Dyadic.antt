@@ -1,8 +1,8 @@
 -- Dyadics of three and five parcels: what the encoder gives decodes to the same instruction, and back.
 -- Assumes nothing.
 use Prim.Native.Nat.{ℕ, _+_, _*_, _/_, _%_, _<_, _≤_}
-use mathlib.Core.Path.{_≡_, refl, sym, ap, ap₂, subst, _∙_}
-use mathlib.Core.Bool.{Bool, true, false, cond, _&&_}
+use mathlib.Core.Path.{_≡_, refl, sym, ap, subst, _∙_}
+use mathlib.Core.Bool.{Bool, true, _&&_}
 use native.Mathlib.Nat.{mod-eq-of-lt, mod-mod, div-div-eq-div-mul}
 use native.Mathlib.Omega.{arith}
 use borrow.Author.Tests.{ltb-true, lt-ltb, eq-eqb}
@@ -25,16 +25,15 @@ use Rattle.isa.specs.declared.DyadicEntry.the-variants as entry
 use Rattle.isa.specs.declared.DyadicInstruction.{DyadicInstruction}
 use Rattle.isa.specs.declared.Instruction.{Instruction}
 use Rattle.isa.specs.declared.Instruction.the-variants as instruction
-use Rattle.isa.specs.declared.Answer.{Answer}
 use Rattle.isa.specs.declared.Answer.the-variants.{Is, Illegal, Unimplemented}
 use Rattle.isa.specs.declared.Text.{Text}
 use Rattle.isa.specs.declared.Encoded.the-variants.{Parcels}
 use Rattle.isa.specs.declared.Rule.the-variants.{OneRegister}
 use Rattle.isa.specs.Tables.{dyadicOf}
 use Rattle.isa.specs.Legal.{legalOf}
-use Rattle.isa.specs.Decode.{operandValue, operandFound, modeEntry, dyadicAnswer, bothFound, decodeDyadic}
+use Rattle.isa.specs.Decode.{operandValue, operandFound, modeEntry, bothFound, decodeDyadic}
 use Rattle.isa.specs.Encodings.{dyadicListed}
-use Rattle.isa.specs.Encode.{coded, withPrefix, operandCode, hasMode, fits, admits, operandRaw, dyadicText, dyadicHasCode, encodeDyadic, encodeAny, lengthOf, wideLength, prefixLength}
+use Rattle.isa.specs.Encode.{withPrefix, operandCode, hasMode, fits, admits, operandRaw, dyadicText, dyadicHasCode, encodeDyadic, encodeAny, lengthOf, wideLength, prefixLength}
 use Rattle.roundtrip.specs.Unused.{registerClear}
 use Rattle.roundtrip.proofs.DyadicTables.{fieldOf, operand-back, code-lt, ruleOf, same-rule, row-back, opcode-lt, RowThere, row-there, ModeThere, mode-there}
 

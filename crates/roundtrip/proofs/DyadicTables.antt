@@ -1,12 +1,12 @@
 -- Dyadics: the decoder's tables of opcodes, modes and rules against the encoder's lists, place by place.
 -- Assumes nothing.
-use Prim.Native.Nat.{ℕ, zero-le, _+_, _*_, _/_, _%_, _<_, _≤_}
-use mathlib.Core.Path.{_≡_, refl, sym, ap, ap₂, subst, _∙_}
+use Prim.Native.Nat.{ℕ, zero-le, _%_, _<_}
+use mathlib.Core.Path.{_≡_, refl, sym, ap, ap₂, _∙_}
 use mathlib.Core.Bool.{Bool, true, false, _&&_, _||_, and-true, and-false}
 use native.Mathlib.Nat.{mod-eq-of-lt}
 use native.Mathlib.Omega.{arith}
-use borrow.Author.Tests.{ltb-true, eqb-true, lt-ltb, eq-eqb}
-use lib.Dec.{ltb, leb, eqb, lit<}
+use borrow.Author.Tests.{ltb-true, eqb-true}
+use lib.Dec.{leb, lit<}
 use Rattle.laws.proofs.Match.{within}
 use Rattle.word.specs.Widths.{signExtendOf}
 use Rattle.isa.specs.declared.Mode.{Mode}
@@ -15,7 +15,6 @@ use Rattle.isa.specs.declared.ModeEntry.{ModeEntry}
 use Rattle.isa.specs.declared.ModeEntry.the-variants as mode
 use Rattle.isa.specs.declared.Operand.{Operand}
 use Rattle.isa.specs.declared.Operand.the-variants.{General, Register}
-use Rattle.isa.specs.declared.OperandFound.{OperandFound}
 use Rattle.isa.specs.declared.OperandFound.the-variants as found
 use Rattle.isa.specs.declared.Wide.{Wide}
 use Rattle.isa.specs.declared.Wide.the-variants.{Three, Five}
@@ -27,15 +26,12 @@ use Rattle.isa.specs.declared.DyadicRow.{DyadicRow}
 use Rattle.isa.specs.declared.DyadicRow.the-variants as row
 use Rattle.isa.specs.declared.DyadicEntry.{DyadicEntry}
 use Rattle.isa.specs.declared.DyadicEntry.the-variants as entry
-use Rattle.isa.specs.declared.DyadicInstruction.{DyadicInstruction}
-use Rattle.isa.specs.declared.Instruction.the-variants as instruction
-use Rattle.isa.specs.declared.Answer.{Answer}
 use Rattle.isa.specs.declared.Answer.the-variants.{Is}
 use Rattle.isa.specs.Tables.{dyadicOf}
-use Rattle.isa.specs.Legal.{wordInMemory, constant, doubleWord, isRegister, legalOf}
-use Rattle.isa.specs.Decode.{operandValue, operandFound, modeEntry, dyadicAnswer, bothFound, decodeDyadic}
+use Rattle.isa.specs.Legal.{wordInMemory, constant, doubleWord, legalOf}
+use Rattle.isa.specs.Decode.{operandValue, operandFound, modeEntry}
 use Rattle.isa.specs.Encodings.{dyadicListed}
-use Rattle.isa.specs.Encode.{modeCode, operandCode, hasMode, fits, aRegister, addressCode, movedCode, admits, operandRaw}
+use Rattle.isa.specs.Encode.{modeCode, operandCode, hasMode, fits, addressCode, movedCode, admits, operandRaw}
 
 -- ---- modes and operands
 

@@ -1,13 +1,13 @@
 -- Which decoder a text comes to, by its first parcel.
 -- Assumes nothing.
 use Prim.Native.Nat.{ℕ, _-_, _≤_, _<_, _/_, _%_}
-use mathlib.Core.Path.{_≡_, refl}
+use mathlib.Core.Path.{_≡_}
 use mathlib.Core.Bool.{true, false}
 use native.Mathlib.Omega.{arith}
 use borrow.Author.Tests.{lt-ltb, le-ltb, eq-eqb, ne-eqb}
 use Rattle.isa.specs.declared.Text.{Text}
 use Rattle.isa.specs.declared.Wide.the-variants.{Three, Five}
-use Rattle.isa.specs.Decode.{decodeOf, decodePrefixed, decodeBare, decodeWide, decodeThree, decodeDyadic, decodeMonadic, decodeShort, joined, cpuPrefix}
+use Rattle.isa.specs.Decode.{decodeOf, decodePrefixed, decodeBare, decodeWide, decodeThree, decodeDyadic, decodeMonadic, joined, cpuPrefix}
 
 module _ (n p a b c d e : ℕ) where
   abbrev pub bare : Text

@@ -2,10 +2,9 @@
 -- Assumes nothing.
 use Prim.Native.Nat.{ℕ, _+_, _-_, _/_, _%_, _<_, _≤_}
 use mathlib.Core.Path.{_≡_, refl, sym, ap, subst, _∙_}
-use mathlib.Core.Bool.{Bool, true, false, cond, not, _&&_, _||_}
-use mathlib.Core.List.{List, [], _∷_, _++_}
+use mathlib.Core.Bool.{true, false, cond, _&&_}
+use mathlib.Core.List.{List, _++_}
 use native.Mathlib.Omega.{arith}
-use native.Mathlib.Decide.{decLt}
 use borrow.Author.Tests.{ltb-true, ltb-false, eqb-true, eqb-false, lt-ltb, le-ltb, eq-eqb, ne-eqb}
 use lib.ListN.{length, getD, take, length-take, List·getD-eq-default}
 use lib.Seq.{getD-take}
@@ -19,18 +18,16 @@ use Rattle.isa.specs.declared.Instruction.{Instruction}
 use Rattle.isa.specs.declared.Instruction.the-variants as instruction
 use Rattle.isa.specs.declared.Wide.{Wide}
 use Rattle.isa.specs.declared.Wide.the-variants.{Three, Five}
-use Rattle.isa.specs.declared.Answer.{Answer}
 use Rattle.isa.specs.declared.Answer.the-variants.{Is, Illegal, Refused}
-use Rattle.isa.specs.declared.Encoded.{Encoded}
 use Rattle.isa.specs.declared.Encoded.the-variants as encoded
 use Rattle.isa.specs.Refusals.{cutText, noCode}
 use Rattle.isa.specs.Tables.{shortOf}
 use Rattle.isa.specs.Decode.{shortEntry, shortInstruction, shortAnswer, decodeShort, decodeWide, decodePrefixed, decodeBare, decodeOf, cpuPrefix, textOf}
 use Rattle.isa.specs.Encodings.{shortListed}
-use Rattle.isa.specs.Encode.{text1, text3, text5, withPrefix, shortParcel, carries, shortCoded, encodeShort, encodeAny, lengthOf, encodeOf, wideLength, prefixLength}
+use Rattle.isa.specs.Encode.{text1, text3, text5, withPrefix, shortParcel, carries, encodeShort, encodeAny, lengthOf, encodeOf, wideLength, prefixLength}
 use Rattle.roundtrip_short.proofs.Short as short
-use Rattle.roundtrip.specs.Unused.{fieldsClear, unusedZero, parcelsOf, firstParcels}
-use Rattle.roundtrip.proofs.Wide.{Given, given, dyadic-decodes, monadic-decodes}
+use Rattle.roundtrip.specs.Unused.{unusedZero, parcelsOf, firstParcels}
+use Rattle.roundtrip.proofs.Wide.{given, dyadic-decodes, monadic-decodes}
 use Rattle.roundtrip.proofs.WideBack.{Long, three, five, wide-back}
 
 -- ---- one parcel

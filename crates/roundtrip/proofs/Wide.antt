@@ -1,11 +1,10 @@
 -- The long forms as texts: prefix, first parcel and operand fields, with anything after them.
 -- Assumes nothing.
-use Prim.Native.Nat.{ℕ, _+_, _*_, _/_, _%_, _<_, _≤_}
-use mathlib.Core.Path.{_≡_, refl, sym, ap, ap₂, subst, _∙_}
+use Prim.Native.Nat.{ℕ, _+_, _/_, _%_, _<_}
+use mathlib.Core.Path.{_≡_, refl, ap, ap₂, subst, _∙_}
 use mathlib.Core.Bool.{Bool, true, false}
-use mathlib.Core.List.{List, [], _∷_, _++_}
+use mathlib.Core.List.{List, _++_}
 use native.Mathlib.Omega.{arith}
-use lib.ListN.{length, getD}
 use Rattle.isa.specs.declared.Wide.{Wide}
 use Rattle.isa.specs.declared.Wide.the-variants.{Three, Five}
 use Rattle.isa.specs.declared.Text.{Text}
@@ -13,8 +12,7 @@ use Rattle.isa.specs.declared.DyadicInstruction.{DyadicInstruction}
 use Rattle.isa.specs.declared.MonadicInstruction.{MonadicInstruction}
 use Rattle.isa.specs.declared.Instruction.the-variants as instruction
 use Rattle.isa.specs.declared.Answer.the-variants.{Is}
-use Rattle.isa.specs.declared.Encoded.{Encoded}
-use Rattle.isa.specs.declared.Encoded.the-variants.{Parcels, Refused}
+use Rattle.isa.specs.declared.Encoded.the-variants.{Parcels}
 use Rattle.isa.specs.Decode.{decodeOf, decodeDyadic, decodeMonadic, joined, textOf}
 use Rattle.isa.specs.Encodings.{dyadicListed, monadicListed}
 use Rattle.isa.specs.Encode.{coded, withPrefix, text3, dyadicText, operandCode, operandRaw, dyadicHasCode, encodeDyadic, monadicCode, takes, encodeMonadic}

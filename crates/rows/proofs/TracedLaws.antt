@@ -1,7 +1,7 @@
 -- Laws of tracing.
 -- Assumes nothing.
-use mathlib.Core.Path.{_≡_, refl, sym, ap, _∙_}
-use mathlib.Core.Bool.{Bool, true, false, _||_}
+use mathlib.Core.Path.{_≡_, sym, ap, _∙_}
+use mathlib.Core.Bool.{Bool, false, _||_}
 use Prim.Native.Nat.{ℕ}
 use borrow.Author.Tests.{ne-eqb}
 use Rattle.bits.specs.Bits.{bitOf}
@@ -9,7 +9,7 @@ use Rattle.isa.specs.declared.Instruction.{Instruction}
 use Rattle.isa.specs.declared.Instruction.the-variants.{Short, Monadic}
 use Rattle.isa.specs.declared.ShortInstruction.{ShortInstruction}
 use Rattle.isa.specs.declared.MonadicInstruction.{MonadicInstruction}
-use Rattle.exec.specs.Execute.{Traced, shortNormal, monadicOf, normal, traced, monadicTraced}
+use Rattle.exec.specs.Execute.{shortNormal, monadicOf, normal, traced, monadicTraced}
 use Rattle.step.specs.Step.{tracesAt}
 use Rattle.rows.specs.Rows.{tracedFrom}
 

@@ -5,17 +5,16 @@ use mathlib.Core.Bool.{Bool, true, false, cond, not, _&&_}
 use lib.ListN.{length}
 use lib.Dec.{leb}
 use Rattle.memory.specs.Bytes.{Memory, wholePages, oddBoard}
-use Rattle.isa.specs.declared.Instruction.{Instruction}
 use Rattle.program.specs.Access.{Gave}
 use Rattle.program.specs.Program.{Program, ret, interpret, plain}
-use Rattle.machine.specs.Registers.{pc, psw, goodBank, badRegister}
+use Rattle.machine.specs.Registers.{psw, goodBank, badRegister}
 use Rattle.machine.specs.Status.{Cpu, reg, isUser, isVirtual}
 use Rattle.access.specs.Parts.{Out, ok, stop, _>>=_}
 use Rattle.exec.specs.declared.Monadic.{Monadic}
 use Rattle.exec.specs.declared.Monadic.the-variants as monadic
 use Rattle.exec.specs.Execute.{Normal, twoOperands, oneOperand, noOperand, normal, execute, traced}
 use Rattle.step.specs.Events.{Due, none, interrupt, timer1, timer2, trace, dueOf, looked, dueCode}
-use Rattle.step.specs.Step.{Met, meets, vectored, fetchInstruction, Acted, finished, sequenced, act, tracesAt, traceFalls, Stepped, stepped, step, timed, holdsStack}
+use Rattle.step.specs.Step.{Met, meets, vectored, fetchInstruction, Acted, finished, sequenced, tracesAt, traceFalls, Stepped, stepped, step, timed, holdsStack}
 
 -- a machine with its lent memory
 pub record Board : Type 0 where

@@ -1,7 +1,7 @@
 -- From the journal back to memory alone: what a program gives, and what undoing it leaves.
 -- Assumes nothing.
-use Prim.Native.Nat.{ℕ, _+_, _*_, _%_, _≤_, min}
-use mathlib.Core.Path.{_≡_, refl, sym, ap, _∙_}
+use Prim.Native.Nat.{ℕ, _*_, _%_, _≤_}
+use mathlib.Core.Path.{_≡_, refl, ap, _∙_}
 use mathlib.Core.List.{List}
 use native.Mathlib.Omega.{arith}
 use lib.ListN.{set, length, length-set}
@@ -9,7 +9,7 @@ use lib.Seq.{getD-set-same}
 use Rattle.memory.specs.Bytes.{Memory}
 use Rattle.program.specs.Access.{Gave, gave}
 use Rattle.program.specs.Program.{Program, interpret, plain}
-use Rattle.program.specs.Journal.{Journal, journal, count, room, undone, undo, Journaled, journaled, logging}
+use Rattle.program.specs.Journal.{journal, count, undone, undo, Journaled, journaled, logging}
 use Rattle.program.proofs.Bounded.{Bounded}
 use Rattle.program.proofs.Undo.{Sized}
 use Rattle.program.proofs.Undoing.{interpret-memory, Undoing, interpret-undoing}

@@ -2,14 +2,12 @@
 -- Assumes nothing.
 use Prim.Native.Nat.{ℕ, zero, suc, _+_, _-_, _/_, _%_, _^_, _<_, _≤_}
 use mathlib.Core.Path.{_≡_, refl, sym, ap, _∙_}
-use mathlib.Core.Bool.{Bool, true, false, cond, not, _&&_}
+use mathlib.Core.Bool.{Bool, true, false, not, _&&_}
 use native.Mathlib.Omega.{arith}
 use lib.ListN.{length, length-append}
-use lib.Dec.{eqb, leb}
 use borrow.Author.Tests.{ne-eqb, le-leb, lt-leb, eqb-true}
 use Rattle.laws.proofs.Cases.{and-left}
 use Rattle.memory.specs.Bytes.{Memory, wholePages}
-use Rattle.program.specs.Access.{gave}
 use Rattle.program.specs.Program.{interpret, plain}
 use Rattle.program.proofs.Bounded.{bounded-result}
 use Rattle.machine.specs.declared.Machine.{Machine}
@@ -20,14 +18,13 @@ use Rattle.machine.specs.Record.{dues, bankOf, cpuOf, machineOf}
 use Rattle.machine.proofs.RecordLaws.{bank-shape, cpu-machine}
 use Rattle.machine.proofs.Flat.{shape-quads}
 use Rattle.access.specs.Parts.{Out, ok, stop}
-use Rattle.step.specs.Events.{Due, none, interrupt, timer1, timer2, trace, dueOf, dueCode, looked}
-use Rattle.step.specs.Step.{finished, sequenced, tracesAt, traceFalls, stepped, step, timed, holdsStack}
-use Rattle.run.specs.Run.{Board, board, Turn, goes, ends, refused, eventDue, lostStack, unlessLost, turn, Tried, tried, fetched, confinedAttempt, afterTry, confinedFor, confinedTurn, turnOf, Ended, ended, going, advance, refusal, unlessRefused, run}
+use Rattle.step.specs.Events.{Due, none, interrupt, timer1, timer2, trace, dueOf, looked}
+use Rattle.step.specs.Step.{finished, sequenced, tracesAt, traceFalls, stepped, step, holdsStack}
+use Rattle.run.specs.Run.{Board, board, Turn, goes, ends, unlessLost, turn, Tried, tried, fetched, confinedAttempt, afterTry, confinedFor, confinedTurn, turnOf, Ended, ended, going, advance, refusal, unlessRefused, run}
 use Rattle.bounds.proofs.Within.{Any}
 use Rattle.bounds.proofs.Steps.{Leaves}
 use Rattle.bounds.proofs.Shapes.{Shaped, step-shaped, confined-shaped, looked-shaped, trace-shaped, timed-shaped}
-use Rattle.runs.specs.declared.running.Ran.{Ran}
-use Rattle.runs.specs.Code.{turned, stoppedAt, endedOf}
+use Rattle.runs.specs.Code.{turned, endedOf}
 
 -- ---- the loop: what is left gives what the whole gives
 

@@ -2,33 +2,32 @@
 -- Assumes nothing.
 use Prim.Native.Nat.{ℕ, _+_, _-_, _*_, _/_, _%_, _^_, _<_, _≤_}
 use mathlib.Core.Path.{_≡_, refl, sym, ap, _∙_}
-use mathlib.Core.Bool.{Bool, true, false, cond, not}
+use mathlib.Core.Bool.{Bool, true, false, not}
 use mathlib.Core.List.{List}
 use native.Mathlib.Omega.{arith}
 use lib.ListN.{set, length, length-set}
-use lib.Dec.{eqb}
-use borrow.Author.Tests.{ne-eqb, lt-ltb, le-ltb}
+use borrow.Author.Tests.{ne-eqb, le-ltb}
 use Rattle.memory.specs.Answers.{answerOf}
 use Rattle.memory.specs.Bytes.{Memory}
 use Rattle.memory.proofs.AnswerLaws.{answer-got}
 use Rattle.program.specs.Access.{Gave, gave}
-use Rattle.program.specs.Program.{interpret, plain}
-use Rattle.program.specs.Journal.{journal, undo, Journaled, journaled, logging}
+use Rattle.program.specs.Program.{interpret}
+use Rattle.program.specs.Journal.{journal, undo, journaled, logging}
 use Rattle.machine.specs.Registers.{Bank, word, config, psw}
 use Rattle.machine.specs.Cache.{Cache}
 use Rattle.machine.specs.Status.{Cpu, cpu, isUser}
 use Rattle.access.specs.Parts.{Out, ok, stop}
 use Rattle.rows.specs.Rows.{tracedFrom}
-use Rattle.step.specs.Events.{Due, none, interrupt, timer1, timer2, trace, dueOf, dueCode, looked}
+use Rattle.step.specs.Events.{Due, trace, dueOf, dueCode, looked}
 use Rattle.step.specs.Timers.{counted}
-use Rattle.step.specs.Step.{finished, sequenced, tracesAt, traceFalls, Stepped, stepped, step, timed, holdsStack}
-use Rattle.run.specs.Run.{Board, board, Turn, goes, ends, refused, eventDue, lostStack, unlessLost, afterStep, turn, Tried, tried, fetched, unimplementedCode, confinedAttempt, afterTry, tryTurn, confinedFor, confinedTurn, turnOf}
+use Rattle.step.specs.Step.{finished, sequenced, tracesAt, traceFalls, Stepped, stepped, step, holdsStack}
+use Rattle.run.specs.Run.{Board, board, Turn, goes, ends, eventDue, unlessLost, afterStep, turn, Tried, tried, fetched, confinedAttempt, afterTry, tryTurn, confinedFor, confinedTurn, turnOf}
 use Rattle.bank.specs.Dues.{dueFrom}
 use Rattle.control.proofs.FlowLaws.{Made}
 use Rattle.attempts.specs.Code.{attemptOf, triedOut}
 use Rattle.attempts.proofs.ActLaws.{answers-class, answers-stop}
 use Rattle.attempts.proofs.AttemptLaws.{confined-attempted}
-use Rattle.steps.proofs.EventLaws.{due-known}
+use Rattle.steps.proofs.EventLaws.{due-is, due-small, due-cases}
 use Rattle.bounds.proofs.Counts.{step-bounded, confined-bounded}
 use Rattle.bounds.proofs.Held.{holds-traced, holds-counted}
 use Rattle.runs.specs.Code.{turned}
@@ -90,37 +89,22 @@ module _ (level : ℕ) (b : Bank) (q : Cache) (m : Memory) (x : List ℕ) (w : L
 -- ---- kind 04: i is the bank after the look, n the number of what is due
 
 module _ (level : ℕ) (b : Bank) (q : Cache) (m : Memory) (i : Bank) (ei : Made b i (λ c. looked level c)) (n : ℕ) (en : n ≡ dueCode (dueOf level i)) where
-  due-is : dueFrom n ≡ dueOf level i
-  due-is = ap (λ (k : ℕ). dueFrom k) en ∙ due-known level i .0
-
   confined-by : confinedTurn level (board (cpu b q) m) ≡ confinedFor (dueFrom n) (board (cpu b q) m) (cpu i q)
   unfolding confinedTurn
   confined-by =
-      ap (λ (c : Cpu). confinedFor (dueOf level (c .bank)) (board (cpu b q) m) c) (sym (ei q)) ∙ ap (λ (d : Due). confinedFor d (board (cpu b q) m) (cpu i q)) (sym due-is)
+      ap (λ (c : Cpu). confinedFor (dueOf level (c .bank)) (board (cpu b q) m) c) (sym (ei q)) ∙ ap (λ (d : Due). confinedFor d (board (cpu b q) m) (cpu i q)) (sym (due-is level i n en))
 
   ends-by : (n ≡ 0 → ⊥) → confinedFor (dueFrom n) (board (cpu b q) m) (cpu i q) ≡ ends eventDue (dueCode (dueFrom n)) (board (cpu i q) m)
-  ends-by h = rw (ne-eqb n 0 h) (go (eqb n 2) (eqb n 0x17) (eqb n 0x18))
-    where
-      which : Bool → Bool → Bool → Due
-      which f g j = cond f trace (cond g timer1 (cond j timer2 (interrupt (n - 0x10))))
-
-      go : (f g j : Bool) → confinedFor (which f g j) (board (cpu b q) m) (cpu i q) ≡ ends eventDue (dueCode (which f g j)) (board (cpu i q) m)
-      go true g j = refl
-      go false true j = refl
-      go false false true = refl
-      go false false false = refl
+  ends-by h = due-cases n (λ d. confinedFor d (board (cpu b q) m) (cpu i q) ≡ ends eventDue (dueCode d) (board (cpu i q) m)) h refl refl refl refl
 
   pub confined-event : (n ≡ 0 → ⊥) → (v : ℕ) → v ≡ 2 * 2 ^ 32 + n → turned v (board (cpu i q) m) ≡ confinedTurn level (board (cpu b q) m)
   confined-event h v ev =
       turned-stop n v (board (cpu i q) m) small ev
-      ∙ ap (λ (k : ℕ). ends eventDue k (board (cpu i q) m)) (en ∙ ap dueCode (sym due-is))
+      ∙ ap (λ (k : ℕ). ends eventDue k (board (cpu i q) m)) (en ∙ ap dueCode (sym (due-is level i n en)))
       ∙ sym (confined-by ∙ ends-by h)
     where
-      bounded : n < 32
-      bounded = rw en (due-known level i .1)
-
       small : n < 2 ^ 32
-      small = omega (arith, bounded)
+      small = omega (arith, due-small level i n en)
 
   -- nothing is due: a and p are bank and cache after the attempt, r its answer
   module _ (en0 : n ≡ 0) (x : List ℕ) (w : List (List ℕ)) (long : Long m x w) (r : ℕ) (a : Bank) (p : Cache) (k : Memory) (y : List ℕ) (v : List (List ℕ)) (x₀ : List ℕ) (ex : x₀ ≡ set x 0 0)

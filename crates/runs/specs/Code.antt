@@ -27,9 +27,12 @@ pub record Advanced : Type 0 where
   pub refusal : ℕ
   pub left : Board
 
+abbrev pub advanced : ℕ → Board → Advanced
+advanced r s = record { refusal = r; left = s }
+
 abbrev pub advancedBy : ℕ → Machine → Memory → Advanced
-advancedBy r c m = record { refusal = r; left = board (cpuOf c) m }
+advancedBy r c m = advanced r (board (cpuOf c) m)
 
 -- a run of budget 1: its code is 0 where the step is done
 abbrev pub oneStep : ℕ → Board → Advanced
-oneStep level s = record { refusal = run false 1 level s .code; left = run false 1 level s .left }
+oneStep level s = advanced (run false 1 level s .code) (run false 1 level s .left)

@@ -1,12 +1,12 @@
 -- What a look before a step finds due (1.11.2, 1.11.5), and the sequence that takes it.
 -- Assumes nothing.
 use Prim.Native.Nat.{ℕ, _+_, _*_}
-use mathlib.Core.Bool.{Bool, true, false, cond, not, _&&_}
+use mathlib.Core.Bool.{Bool, cond, not, _&&_}
 use lib.Dec.{eqb, ltb, leb}
 use Rattle.bits.specs.Bits.{fieldOf}
 use Rattle.program.specs.Program.{Program}
 use Rattle.machine.specs.Registers.{Bank, word, psw, traceDue, timer1Due, timer2Due, nmiTaken}
-use Rattle.machine.specs.Status.{Cpu, reg, with}
+use Rattle.machine.specs.Status.{Cpu, with}
 use Rattle.access.specs.Parts.{Out}
 use Rattle.exec.specs.Frames.{interruptSequence, exceptionSequence}
 

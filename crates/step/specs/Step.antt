@@ -14,7 +14,7 @@ use Rattle.machine.specs.Status.{Cpu, reg, with, isUser}
 use Rattle.access.specs.Parts.{Out, ok, stop, done, resets, _>>=_}
 use Rattle.access.specs.Text.{fetchText}
 use Rattle.exec.specs.Frames.{exceptionSequence, unimplementedSequence, reset}
-use Rattle.exec.specs.Execute.{Normal, normal, execute, Traced, always, atJumps, never, traced}
+use Rattle.exec.specs.Execute.{normal, execute, Traced, always, atJumps, never, traced}
 use Rattle.step.specs.Events.{Due, none, interrupt, timer1, timer2, trace, dueOf, looked, take}
 use Rattle.step.specs.Timers.{counted}
 

@@ -1,7 +1,7 @@
 -- Both timers (Table 1-2, 1.5.11, 1.5.12), counted after each step by the CONFIG and the level it began with. A clock is one step.
 -- Assumes nothing.
 use Prim.Native.Nat.{ℕ}
-use mathlib.Core.Bool.{Bool, true, false, cond, not, _&&_, _||_}
+use mathlib.Core.Bool.{Bool, cond, not, _&&_, _||_}
 use lib.Dec.{eqb}
 use Rattle.word.specs.Sums.{plusOf}
 use Rattle.bits.specs.Bits.{bitOf, fieldOf}

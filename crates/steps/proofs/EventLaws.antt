@@ -1,11 +1,11 @@
 -- The ways out of event sequences, and what is due by its number.
 -- Assumes nothing.
-use Prim.Native.Nat.{ℕ, _+_, _-_, _%_, _^_, _<_, _≤_}
+use Prim.Native.Nat.{ℕ, _+_, _-_, _^_, _<_, _≤_}
 use mathlib.Core.Path.{_≡_, refl, sym, ap, _∙_}
 use mathlib.Core.Bool.{Bool, true, false, cond, not, _&&_}
 use native.Mathlib.Omega.{arith}
 use lib.Dec.{eqb, ltb, leb}
-use borrow.Author.Tests.{ne-eqb, eq-eqb}
+use borrow.Author.Tests.{ne-eqb}
 use Rattle.memory.specs.Answers.{answerOf}
 use Rattle.memory.proofs.AnswerLaws.{answer-low, answer-high}
 use Rattle.program.specs.Access.{Gave, gave}
@@ -15,11 +15,11 @@ use Rattle.program.proofs.Interpret.{interpret-after}
 use Rattle.machine.specs.Registers.{Bank, traceDue, timer1Due, timer2Due, nmiTaken}
 use Rattle.machine.specs.Cache.{Cache}
 use Rattle.machine.specs.Status.{Cpu, cpu}
-use Rattle.access.specs.Parts.{Out, ok, stop, resets}
+use Rattle.access.specs.Parts.{Out}
 use Rattle.access.specs.Code.{ended}
 use Rattle.exec.specs.Frames.{interruptSequence, exceptionSequence, reset}
-use Rattle.step.specs.Events.{Due, none, interrupt, timer1, timer2, trace, isDue, priority, dueOf, dueCode, traceException, take}
-use Rattle.step.specs.Step.{Stepped, stepped, settled, eventStep, exceptionStep, instructionStep, stepFor}
+use Rattle.step.specs.Events.{Due, none, interrupt, timer1, timer2, trace, isDue, priority, dueOf, dueCode, take}
+use Rattle.step.specs.Step.{stepped, settled, eventStep, exceptionStep, instructionStep, stepFor}
 use Rattle.bank.specs.Dues.{dueFrom, takenOf, vectorOf, isTrace}
 use Rattle.bank.proofs.EventLaws.{asked}
 use Rattle.control.proofs.FlowLaws.{Made}
@@ -101,7 +101,7 @@ level-known n h = (simp (ne-eqb (0x10 + n) 0 (λ e. omega arith), ne-eqb (0x10 +
     back : 0x10 + n - 0x10 ≡ n
     back = omega arith
 
-pub due-known : (level : ℕ) (b : Bank) → (dueFrom (dueCode (dueOf level b)) ≡ dueOf level b) × (dueCode (dueOf level b) < 32)
+due-known : (level : ℕ) (b : Bank) → (dueFrom (dueCode (dueOf level b)) ≡ dueOf level b) × (dueCode (dueOf level b) < 32)
 due-known level b =
     go (eqb level 0 && not (isDue b nmiTaken)) (eqb level 1 && ltb 1 (priority b)) (isDue b timer1Due && ltb 1 (priority b)) (isDue b timer2Due && ltb 1 (priority b)) (leb 2 level && leb level 6 && ltb level (priority b)) (isDue b traceDue) (asked level (priority b))
   where
@@ -114,15 +114,26 @@ due-known level b =
     go false false false false false true l = (refl, omega arith)
     go false false false false false false l = (refl, omega arith)
 
+module _ (level : ℕ) (b : Bank) (k : ℕ) (e : k ≡ dueCode (dueOf level b)) where
+  pub due-is : dueFrom k ≡ dueOf level b
+  due-is = ap (λ (n : ℕ). dueFrom n) e ∙ due-known level b .0
+
+  pub due-small : k < 32
+  due-small = rw e (due-known level b .1)
+
+-- what holds of each event holds of a number that is not 0
+pub due-cases : (k : ℕ) (P : Due → Type 0) → (k ≡ 0 → ⊥) → P trace → P timer1 → P timer2 → P (interrupt (k - 0x10)) → P (dueFrom k)
+due-cases k P h a b c d = rw (ne-eqb k 0 h) (go (eqb k 2) (eqb k 0x17) (eqb k 0x18))
+  where
+    go : (f g i : Bool) → P (cond f trace (cond g timer1 (cond i timer2 (interrupt (k - 0x10)))))
+    go true g i = a
+    go false true i = b
+    go false false true = c
+    go false false false = d
+
 module _ (c : Cpu) (k : ℕ) where
   pub nothing-due : k ≡ 0 → stepFor (dueFrom k) c ≡ instructionStep c
   nothing-due h = rw h
 
   pub something-due : (k ≡ 0 → ⊥) → stepFor (dueFrom k) c ≡ eventStep c (dueFrom k)
-  something-due h = rw (ne-eqb k 0 h) (go (eqb k 2) (eqb k 0x17) (eqb k 0x18))
-    where
-      go : (f g i : Bool) → stepFor (cond f trace (cond g timer1 (cond i timer2 (interrupt (k - 0x10))))) c ≡ eventStep c (cond f trace (cond g timer1 (cond i timer2 (interrupt (k - 0x10)))))
-      go true g i = refl
-      go false true i = refl
-      go false false true = refl
-      go false false false = refl
+  something-due h = due-cases k (λ d. stepFor d c ≡ eventStep c d) h refl refl refl refl

@@ -1,8 +1,8 @@
 -- The ways out of the step.
 -- Assumes nothing.
 use Prim.Native.Nat.{ℕ, _%_, _^_, _<_, _≤_}
-use mathlib.Core.Path.{_≡_, refl, sym, ap, _∙_}
-use mathlib.Core.Bool.{Bool, true, false, cond}
+use mathlib.Core.Path.{_≡_, sym, ap, _∙_}
+use mathlib.Core.Bool.{Bool, true, false}
 use native.Mathlib.Omega.{arith}
 use borrow.Author.Tests.{lt-ltb, le-ltb}
 use Rattle.bits.specs.Bits.{bitOf}
@@ -23,7 +23,7 @@ use Rattle.bank.specs.Dues.{dueFrom}
 use Rattle.control.proofs.FlowLaws.{Made}
 use Rattle.attempts.specs.Code.{attemptOf, actedOut, triedOut}
 use Rattle.attempts.proofs.AttemptLaws.{events-attempted}
-use Rattle.steps.proofs.EventLaws.{due-known, nothing-due, something-due}
+use Rattle.steps.proofs.EventLaws.{due-is, due-small, nothing-due, something-due}
 
 -- ---- after an attempt: d is the bank that is left
 
@@ -59,14 +59,11 @@ instruction-stepped b q x s a t u e g f =
 -- ---- the step: s is the bank after the look, k the number of what is due
 
 module _ (level : ℕ) (b : Bank) (q : Cache) (s : Bank) (es : Made b s (λ c. looked level c)) (k : ℕ) (ek : k ≡ dueCode (dueOf level s)) (t : Journaled) (g : Gave Journaled Stepped) where
-  due-is : dueFrom k ≡ dueOf level s
-  due-is = ap (λ (n : ℕ). dueFrom n) ek ∙ due-known level s .0
-
   -- the step by the number of what is due
   step-by : interpret logging (step level (cpu b q)) t ≡ interpret logging (stepFor (dueFrom k) (cpu s q)) t
   unfolding step
   step-by =
-      ap (λ (c : Cpu). interpret logging (stepFor (dueOf level (c .bank)) c) t) (sym (es q)) ∙ ap (λ (d : Due). interpret logging (stepFor d (cpu s q)) t) (sym due-is)
+      ap (λ (c : Cpu). interpret logging (stepFor (dueOf level (c .bank)) c) t) (sym (es q)) ∙ ap (λ (d : Due). interpret logging (stepFor d (cpu s q)) t) (sym (due-is level s k ek))
 
   pub steps-instruction : k ≡ 0 → g ≡ interpret logging (instructionStep (cpu s q)) t → g ≡ interpret logging (step level (cpu b q)) t
   steps-instruction h e = e ∙ ap (λ (p : Program Stepped). interpret logging p t) (sym (nothing-due (cpu s q) k h)) ∙ sym step-by
@@ -75,8 +72,5 @@ module _ (level : ℕ) (b : Bank) (q : Cache) (s : Bank) (es : Made b s (λ c. l
   steps-event h e =
       e ∙ ap (λ (n : ℕ). interpret logging (eventStep (cpu s q) (dueFrom n)) t) small ∙ ap (λ (p : Program Stepped). interpret logging p t) (sym (something-due (cpu s q) k h)) ∙ sym step-by
     where
-      bounded : k < 32
-      bounded = rw ek (due-known level s .1)
-
       small : k % 32 ≡ k
-      small = omega (arith, bounded)
+      small = omega (arith, due-small level s k ek)

@@ -1,5 +1,4 @@
 use Rattle.bits.proofs.Laws.{joined-masked}
-use borrow.Author.Needs.{needs}
 use Rattle.bits.proofs.joined.Statement.{statement}
 use Rattle.bits.proofs.joined.Tie as tie
 

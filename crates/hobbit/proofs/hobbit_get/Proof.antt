@@ -1,7 +1,6 @@
 use mathlib.Core.Path.{ap, _∙_}
 use Rattle.machine.specs.declared.Machine.{Machine}
-use Rattle.machine.specs.declared.Reading.{Reading}
-use Rattle.machine.specs.Record.{reading, readingOf}
+use Rattle.machine.specs.Record.{readingOf}
 use borrow.Author.Needs.{needs}
 use Rattle.hobbit.proofs.hobbit_get.Statement.{statement}
 use Rattle.hobbit.proofs.hobbit_get.Tie as tie

@@ -1,4 +1,3 @@
-use lib.ListN.{replicate}
 use Rattle.hobbit.proofs.Laws.{set-lent}
 use borrow.Author.Needs.{needs}
 use Rattle.hobbit.proofs.hobbit_set.Statement.{statement}

@@ -4,11 +4,8 @@ use borrow.Author.Needs.{needs}
 use Rattle.handler.proofs.quads.quad_place.Statement.{statement}
 use Rattle.handler.proofs.quads.quad_place.Tie as tie
 
-segment-entry-requires : tie.Need-segment-entry-requires
-segment-entry-requires c κs = search needs
-
-second-stage-requires : tie.Need-second-stage-requires
-second-stage-requires c κs = search needs
+translate-requires : tie.Need-translate-requires
+translate-requires c κs = search needs
 
 enum-told : tie.Need-enum-told
 enum-told c = search needs
@@ -35,8 +32,7 @@ pub quad-place-spec : {M : Type 1} → statement M
 quad-place-spec =
     tie.close
     (tie.spec
-    segment-entry-requires
-    second-stage-requires
+    translate-requires
     enum-told
     enum-told-2
     enum-known-w

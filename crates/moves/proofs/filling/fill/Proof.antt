@@ -1,6 +1,6 @@
 use Rattle.moves.proofs.FillLaws.{Filling, filling-begun, filling-end, filling-enough, filling-more, filling-fault}
 use Rattle.handler.specs.Followed.{regimeFor}
-use mathlib.Core.Path.{refl, _∙_}
+use mathlib.Core.Path.{_∙_}
 use borrow.Author.Needs.{needs}
 use Rattle.moves.proofs.filling.fill.Statement.{statement}
 use Rattle.moves.proofs.filling.fill.Tie as tie

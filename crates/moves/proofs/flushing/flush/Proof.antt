@@ -1,5 +1,5 @@
 use Rattle.moves.proofs.FlushLaws.{Flushing, flushing-begun, flushing-end, flushing-enough, flushing-more, flushing-fault}
-use mathlib.Core.Path.{refl, _∙_}
+use mathlib.Core.Path.{_∙_}
 use borrow.Author.Needs.{needs}
 use Rattle.moves.proofs.flushing.flush.Statement.{statement}
 use Rattle.moves.proofs.flushing.flush.Tie as tie

@@ -1,4 +1,4 @@
-use mathlib.Core.Path.{refl, _∙_}
+use mathlib.Core.Path.{refl}
 use borrow.Author.Needs.{needs}
 use Rattle.moves.proofs.flushing.may_flush.Statement.{statement}
 use Rattle.moves.proofs.flushing.may_flush.Tie as tie

@@ -1,6 +1,5 @@
-use Prim.Native.Nat.{_-_, _%_}
-use mathlib.Core.Path.{_≡_, refl, ap, _∙_}
-use native.Mathlib.Omega.{arith}
+use Prim.Native.Nat.{_-_}
+use mathlib.Core.Path.{_≡_, refl}
 use lib.ListN.{length}
 use Rattle.machine.specs.Status.{cpu}
 use Rattle.run.specs.Run.{board, turnOf}

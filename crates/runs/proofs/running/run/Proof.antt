@@ -1,6 +1,4 @@
 use Rattle.runs.proofs.RunLaws.{words-whole, run-refused, run-done}
-use Rattle.machine.specs.Status.{cpu}
-use Rattle.run.specs.Run.{board}
 use borrow.Author.Needs.{needs}
 use Rattle.runs.proofs.running.run.Statement.{statement}
 use Rattle.runs.proofs.running.run.Tie as tie

@@ -1,5 +1,5 @@
 use Rattle.runs.proofs.TurnLaws.{judge-holds, judge-lost}
-use mathlib.Core.Path.{refl, ap}
+use mathlib.Core.Path.{ap}
 use Rattle.memory.specs.Bytes.{Memory}
 use Rattle.program.specs.Journal.{journal, undo}
 use Rattle.machine.specs.Status.{cpu}

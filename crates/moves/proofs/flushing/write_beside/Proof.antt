@@ -1,7 +1,7 @@
 use Rattle.handler.proofs.QuadLaws.{write-near, write-low, quad-kept}
 use borrow.Author.Needs.{needs}
-use Rattle.handler.proofs.quads.write_beside.Statement.{statement}
-use Rattle.handler.proofs.quads.write_beside.Tie as tie
+use Rattle.moves.proofs.flushing.write_beside.Statement.{statement}
+use Rattle.moves.proofs.flushing.write_beside.Tie as tie
 
 add-store-noted : tie.Need-add-store-noted
 add-store-noted c = search needs

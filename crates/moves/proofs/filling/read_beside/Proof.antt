@@ -1,7 +1,7 @@
 use Rattle.handler.proofs.QuadLaws.{read-near, read-low}
 use borrow.Author.Needs.{needs}
-use Rattle.handler.proofs.quads.read_beside.Statement.{statement}
-use Rattle.handler.proofs.quads.read_beside.Tie as tie
+use Rattle.moves.proofs.filling.read_beside.Statement.{statement}
+use Rattle.moves.proofs.filling.read_beside.Tie as tie
 
 add-load-word : tie.Need-add-load-word
 add-load-word c = search needs
