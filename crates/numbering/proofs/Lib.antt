@@ -1,0 +1,4 @@
+pub mod RowLaws
+pub mod RoundTrip
+pub mod WordLaws
+pub mod Exits

@@ -1,0 +1,53 @@
+use Rattle.numbering.proofs.Exits.{answered}
+use borrow.Author.Needs.{needs}
+use Rattle.numbering.proofs.answer_into.Statement.{statement}
+use Rattle.numbering.proofs.answer_into.Tie as tie
+
+enum-known-a : tie.Need-enum-known-a
+enum-known-a c = search needs
+
+fill-requires : tie.Need-fill-requires
+fill-requires c κs = search needs
+
+enum-told : tie.Need-enum-told
+enum-told c = search needs
+
+enum-told-2 : tie.Need-enum-told-2
+enum-told-2 c = search needs
+
+enum-told-3 : tie.Need-enum-told-3
+enum-told-3 c = search needs
+
+enum-told-4 : tie.Need-enum-told-4
+enum-told-4 c = search needs
+
+returns : tie.Need-returns
+returns c = answered _ _ _ _ (c .before .before .before .a .given .1) (c .fill .ensures)
+
+returns-2 : tie.Need-returns-2
+returns-2 c = search (needs, answered)
+
+returns-3 : tie.Need-returns-3
+returns-3 c = search (needs, answered)
+
+returns-4 : tie.Need-returns-4
+returns-4 c = search (needs, answered)
+
+returns-5 : tie.Need-returns-5
+returns-5 c = search (needs, answered)
+
+pub answer-into-spec : {M : Type 1} → statement M
+answer-into-spec =
+    tie.close
+    (tie.spec
+    enum-known-a
+    fill-requires
+    enum-told
+    enum-told-2
+    enum-told-3
+    enum-told-4
+    returns
+    returns-2
+    returns-3
+    returns-4
+    returns-5)
