@@ -11,6 +11,8 @@
  *   2  no such register, a reserved bit set, or MSP not in SP to SP + 256
  *   3  interrupt level above 7
  *   4  the next step would leave MSP outside SP to SP + 256
+ *   5  no encoding of the named length carries the instruction, or the eight words name none
+ *   6  fewer parcels than the first one, or the one after a prefix, calls for
  *   8  bytes that reach past the end of memory
  *   9  a confined run without user level and virtual addressing
  */
@@ -55,5 +57,83 @@ uint32_t hobbit_step(uint8_t *memory, size_t bytes, uint32_t registers[17], uint
  * come before the first step, 4 after the finished ones. */
 HobbitAnswer hobbit_run(uint8_t *memory, size_t bytes, uint32_t registers[17], uint32_t cache[64], bool confined,
                         uint32_t budget, uint32_t level);
+
+/* ---- Decoding and encoding: an instruction is eight words.
+ *   0  form: HOBBIT_ONE_PARCEL, HOBBIT_DYADIC (two operands) or HOBBIT_MONADIC (one operand of 32 bits)
+ *   1  row, numbered from 0 in each form: HOBBIT_SHORT_.., HOBBIT_DYADIC_.., HOBBIT_MONADIC_..
+ *   2  parcels of a dyadic without its prefix, 3 or 5
+ *   3  1 if there is a CPU prefix, which one parcel never has, else 0
+ *   4  source mode of a dyadic, HOBBIT_MODE_..; mode of a monadic, HOBBIT_OPERAND_..
+ *   5  source value, or the register's number; the operand of a monadic
+ *   6  destination mode of a dyadic, HOBBIT_MODE_..
+ *   7  destination value, or the register's number
+ * A word that a form has no use for is 0. Values are those that the instruction works with: fields of one parcel scaled and
+ * extended, 16-bit immediates and offsets sign extended, 16-bit absolute addresses as they stand. The length in parcels,
+ * prefix counted, is 1 for one parcel, word 2 + word 3 for a dyadic and 3 + word 3 for a monadic. */
+enum { HOBBIT_ONE_PARCEL = 1, HOBBIT_DYADIC = 2, HOBBIT_MONADIC = 3 };
+
+/* Rows of one parcel, then of two operands, then of one. */
+enum {
+    HOBBIT_SHORT_KCALL = 0, HOBBIT_SHORT_CALL = 1, HOBBIT_SHORT_JMP = 2, HOBBIT_SHORT_JMPFN = 3,
+    HOBBIT_SHORT_JMPFY = 4, HOBBIT_SHORT_JMPTN = 5, HOBBIT_SHORT_JMPTY = 6, HOBBIT_SHORT_MOV_WAI_STK = 7,
+    HOBBIT_SHORT_ADD3_WAI_STK = 8, HOBBIT_SHORT_AND3_IMM_STK = 9, HOBBIT_SHORT_AND_STK_STK = 10,
+    HOBBIT_SHORT_CMPEQ_IMM_STK = 11, HOBBIT_SHORT_CMPGT_STK_STK = 12, HOBBIT_SHORT_CMPGT_IMM_STK = 13,
+    HOBBIT_SHORT_CMPEQ_STK_STK = 14, HOBBIT_SHORT_ADD_IMM_STK = 15, HOBBIT_SHORT_ADD3_IMM_STK = 16,
+    HOBBIT_SHORT_ADD_STK_STK = 17, HOBBIT_SHORT_ADD3_STK_STK = 18, HOBBIT_SHORT_MOV_STK_STK = 19,
+    HOBBIT_SHORT_MOV_ISTK_STK = 20, HOBBIT_SHORT_MOV_STK_ISTK = 21, HOBBIT_SHORT_MOV_ISTK_ISTK = 22,
+    HOBBIT_SHORT_MOV_IMM_STK = 23, HOBBIT_SHORT_MOVA_STK_STK = 24, HOBBIT_SHORT_SHL3_UIMM_STK = 25,
+    HOBBIT_SHORT_SHR3_UIMM_STK = 26, HOBBIT_SHORT_ENTER = 27, HOBBIT_SHORT_CATCH = 28, HOBBIT_SHORT_RETURN = 29,
+    HOBBIT_SHORT_POPN = 30, HOBBIT_SHORT_KRET = 31, HOBBIT_SHORT_NOP = 32, HOBBIT_SHORT_FLUSHI = 33,
+    HOBBIT_SHORT_FLUSHP = 34, HOBBIT_SHORT_CRET = 35, HOBBIT_SHORT_TESTV = 36, HOBBIT_SHORT_TESTC = 37,
+    HOBBIT_SHORT_CLRE = 38
+};
+
+enum {
+    HOBBIT_DYADIC_ORI = 0, HOBBIT_DYADIC_ANDI = 1, HOBBIT_DYADIC_ADDI = 2, HOBBIT_DYADIC_MOVA = 3,
+    HOBBIT_DYADIC_UREM = 4, HOBBIT_DYADIC_MOV = 5, HOBBIT_DYADIC_DQM = 6, HOBBIT_DYADIC_TADD = 7,
+    HOBBIT_DYADIC_TSUB = 8, HOBBIT_DYADIC_CMPGT = 9, HOBBIT_DYADIC_CMPHI = 10, HOBBIT_DYADIC_CMPEQ = 11,
+    HOBBIT_DYADIC_SUB = 12, HOBBIT_DYADIC_OR = 13, HOBBIT_DYADIC_AND = 14, HOBBIT_DYADIC_ADD = 15,
+    HOBBIT_DYADIC_XOR = 16, HOBBIT_DYADIC_REM = 17, HOBBIT_DYADIC_MUL = 18, HOBBIT_DYADIC_DIV = 19,
+    HOBBIT_DYADIC_SHR = 20, HOBBIT_DYADIC_USHR = 21, HOBBIT_DYADIC_SHL = 22, HOBBIT_DYADIC_UDIV = 23,
+    HOBBIT_DYADIC_SUB3 = 24, HOBBIT_DYADIC_OR3 = 25, HOBBIT_DYADIC_AND3 = 26, HOBBIT_DYADIC_ADD3 = 27,
+    HOBBIT_DYADIC_XOR3 = 28, HOBBIT_DYADIC_REM3 = 29, HOBBIT_DYADIC_MUL3 = 30, HOBBIT_DYADIC_DIV3 = 31,
+    HOBBIT_DYADIC_SHR3 = 32, HOBBIT_DYADIC_USHR3 = 33, HOBBIT_DYADIC_SHL3 = 34
+};
+
+enum {
+    HOBBIT_MONADIC_KCALL = 0, HOBBIT_MONADIC_CALL = 1, HOBBIT_MONADIC_RETURN = 2, HOBBIT_MONADIC_JMP = 3,
+    HOBBIT_MONADIC_JMPFN = 4, HOBBIT_MONADIC_JMPFY = 5, HOBBIT_MONADIC_JMPTN = 6, HOBBIT_MONADIC_JMPTY = 7,
+    HOBBIT_MONADIC_CATCH = 8, HOBBIT_MONADIC_ENTER = 9, HOBBIT_MONADIC_LDRAA = 10, HOBBIT_MONADIC_FLUSHPTE = 11,
+    HOBBIT_MONADIC_FLUSHPBE = 12, HOBBIT_MONADIC_POPN = 13
+};
+
+/* Modes of a dyadic's operands: the codes of Table 1-21, and 16 for a register. */
+enum {
+    HOBBIT_MODE_ABSOLUTE_BYTE = 0, HOBBIT_MODE_ABSOLUTE_UBYTE = 1, HOBBIT_MODE_ABSOLUTE_HALF = 2,
+    HOBBIT_MODE_ABSOLUTE_UHALF = 3, HOBBIT_MODE_STACK_BYTE = 4, HOBBIT_MODE_STACK_UBYTE = 5,
+    HOBBIT_MODE_STACK_HALF = 6, HOBBIT_MODE_STACK_UHALF = 7, HOBBIT_MODE_INDIRECT_BYTE = 8,
+    HOBBIT_MODE_INDIRECT_UBYTE = 9, HOBBIT_MODE_INDIRECT_HALF = 10, HOBBIT_MODE_INDIRECT_UHALF = 11,
+    HOBBIT_MODE_ABSOLUTE_WORD = 12, HOBBIT_MODE_STACK_WORD = 13, HOBBIT_MODE_INDIRECT_WORD = 14,
+    HOBBIT_MODE_IMMEDIATE = 15, HOBBIT_MODE_REGISTER = 16
+};
+
+/* Modes of a monadic's operand: the word modes of Table 1-21 and the modes of Table 1-23. */
+enum {
+    HOBBIT_OPERAND_WORD_ABSOLUTE = 0, HOBBIT_OPERAND_WORD_STACK = 1, HOBBIT_OPERAND_WORD_INDIRECT = 2,
+    HOBBIT_OPERAND_WORD_IMMEDIATE = 3, HOBBIT_OPERAND_FLOW_ABSOLUTE_INDIRECT = 4,
+    HOBBIT_OPERAND_FLOW_STACK_INDIRECT = 5, HOBBIT_OPERAND_FLOW_RELATIVE = 6, HOBBIT_OPERAND_FLOW_ABSOLUTE = 7
+};
+
+/* What parcels are that are no instruction: 0x100 and the exception of an illegal instruction, 0x100 and the vector's offset
+ * of an unimplemented instruction and of a trapped niladic. */
+enum { HOBBIT_ILLEGAL = 0x103, HOBBIT_TRAPPED = 0x108, HOBBIT_UNIMPLEMENTED = 0x10C };
+
+/* The instruction that count parcels begin with: 0 and its words; or 6, HOBBIT_ILLEGAL, HOBBIT_TRAPPED or
+ * HOBBIT_UNIMPLEMENTED, and the words as they were. Parcels after the instruction do not count. */
+uint32_t hobbit_decode(const uint16_t *parcels, size_t count, uint32_t instruction[8]);
+
+/* The parcels of an instruction at a length in parcels, prefix counted, the rest of the six 0: 0; or 5 and the parcels as
+ * they were. */
+uint32_t hobbit_encode(const uint32_t instruction[8], uint32_t length, uint16_t parcels[6]);
 
 #endif

@@ -1,6 +1,7 @@
 // The C interface: calls over memory and blocks of words that the caller lends (include/hobbit.h says what each does).
-// Here: the machine; in `bytes` its memory.
+// Here: the machine; in `bytes` its memory; in `texts` decoding and encoding.
 pub mod bytes;
+pub mod texts;
 
 use machine::Machine;
 use machine::assign::read_register;
