@@ -3,10 +3,11 @@ use crate::guard::Guarded;
 use crate::link::Proved;
 use crate::machine::{start, Answer, Machine, Tally, NAMES, PC};
 use crate::random::{Case, Operation};
+use crate::texts;
 use std::time::Instant;
 
 /// Differences that are printed before the check gives up.
-const SHOWN: u64 = 10;
+pub const SHOWN: u64 = 10;
 
 #[derive(Default)]
 pub struct Summary {
@@ -15,6 +16,10 @@ pub struct Summary {
     pub runs: [u64; 2],
     pub settings: u64,
     pub transfers: u64,
+    pub texts: u64,
+    pub encoded: u64,
+    pub blocks: u64,
+    pub coded: u64,
     pub differences: u64,
     pub tally: Tally,
 }
@@ -186,6 +191,7 @@ pub fn compare(steps: u64, seed: u64) -> Summary {
     let begun = Instant::now();
     let mut told = begun;
     compare_start(&mut summary);
+    texts::compare(seed, &mut summary);
     while summary.tally.steps < steps && summary.differences < SHOWN {
         compare_case(seed.wrapping_add(summary.cases), &mut summary);
         if told.elapsed().as_secs() >= 5 {

@@ -28,6 +28,8 @@ mod hobbit {
         pub fn hobbit_get(registers: *const u32, place: u32) -> HobbitWord;
         pub fn hobbit_store(memory: *mut u8, bytes: usize, address: u32, from: *const u8, count: usize) -> u32;
         pub fn hobbit_load(memory: *const u8, bytes: usize, address: u32, to: *mut u8, count: usize) -> u32;
+        pub fn hobbit_decode(parcels: *const u16, count: usize, instruction: *mut u32) -> u32;
+        pub fn hobbit_encode(instruction: *const u32, length: u32, parcels: *mut u16) -> u32;
         pub fn hobbit_start(registers: *mut u32, cache: *mut u32);
         pub fn hobbit_set(registers: *mut u32, place: u32, value: u32) -> u32;
         pub fn hobbit_step(memory: *mut u8, bytes: usize, registers: *mut u32, cache: *mut u32, level: u32) -> u32;
@@ -89,7 +91,27 @@ impl Proved {
     }
 }
 
+#[cfg(linked)]
+pub fn decode(parcels: &[u16], instruction: &mut [u32; 8]) -> u32 {
+    unsafe { hobbit::hobbit_decode(parcels.as_ptr(), parcels.len(), instruction.as_mut_ptr()) }
+}
+
+#[cfg(linked)]
+pub fn encode(instruction: &[u32; 8], length: u32, parcels: &mut [u16; 6]) -> u32 {
+    unsafe { hobbit::hobbit_encode(instruction.as_ptr(), length, parcels.as_mut_ptr()) }
+}
+
 // built without the library: main refuses to compare
+#[cfg(not(linked))]
+pub fn decode(_: &[u16], _: &mut [u32; 8]) -> u32 {
+    unreachable!()
+}
+
+#[cfg(not(linked))]
+pub fn encode(_: &[u32; 8], _: u32, _: &mut [u16; 6]) -> u32 {
+    unreachable!()
+}
+
 #[cfg(not(linked))]
 impl Proved {
     pub const LINKED: bool = false;

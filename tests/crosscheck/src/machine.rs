@@ -1,5 +1,5 @@
 //! The Hobbit as a plain interpreter, from the manual and document 01: the machine, its refusals, steps and runs.
-mod decode;
+pub mod decode;
 mod events;
 mod execute;
 mod memory;

@@ -9,6 +9,7 @@ mod guard;
 mod link;
 mod machine;
 mod random;
+mod texts;
 
 use std::process::ExitCode;
 
@@ -37,6 +38,11 @@ fn check(arguments: &[String]) -> ExitCode {
     println!("{} cases from seed {seed}", summary.cases);
     println!("{} single steps, {} runs of kind 03, {} of kind 04", summary.calls, summary.runs[0], summary.runs[1]);
     println!("{} registers set or read, {} stores and loads", summary.settings, summary.transfers);
+    let (texts, encoded) = (summary.texts, summary.encoded);
+    println!(
+        "{texts} texts decoded, {encoded} encoded back, {} blocks, {} of them coded",
+        summary.blocks, summary.coded
+    );
     println!("{} steps compared, {} differences", summary.tally.steps, summary.differences);
     ExitCode::from((summary.differences > 0) as u8)
 }

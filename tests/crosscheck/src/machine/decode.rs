@@ -120,9 +120,9 @@ pub fn following(parcel: u16) -> usize {
 // 112, monadics from 176
 const STACK_ROWS: usize = 32;
 const NILADIC_ROWS: usize = 36;
-const THREE_ROWS: usize = 48;
-const FIVE_ROWS: usize = 112;
-const MONADIC_ROWS: usize = 176;
+pub const THREE_ROWS: usize = 48;
+pub const FIVE_ROWS: usize = 112;
+pub const MONADIC_ROWS: usize = 176;
 
 /// The parcels are all that the first one, or the one after a prefix, calls for.
 pub fn decode(parcels: &[u16]) -> Decoded {

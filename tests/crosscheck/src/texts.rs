@@ -1,0 +1,282 @@
+//! Decoding and encoding: the library's two calls against the interpreter's decoder, over every first parcel.
+use crate::compare::{Summary, SHOWN};
+use crate::link;
+use crate::machine::decode::{decode, following, row_name, Act, Decoded, Instruction, Monadic, Operand, PREFIX};
+use crate::machine::decode::{FIVE_ROWS, MONADIC_ROWS, THREE_ROWS};
+use crate::machine::tally::ROWS;
+use crate::random::Random;
+
+/// How often each first parcel is tried, with and without a prefix, before other parcels each time.
+const ROUNDS: u32 = 8;
+
+const BLOCKS: u32 = 1_000_000;
+
+const NO_CODE: u32 = 5;
+const CUT_TEXT: u32 = 6;
+const ILLEGAL: u32 = 0x103;
+const TRAPPED: u32 = 0x108;
+const UNIMPLEMENTED: u32 = 0x10C;
+
+/// A mode's number for an operand that is a register.
+const REGISTER: u32 = 16;
+
+/// What is in a place that a call must leave alone.
+const LEFT: u32 = 0xA5A5_A5A5;
+
+type Block = [u32; 8];
+
+/// By the interpreter's number of a row: its number in a block, which is how many rows of its form have a lower code.
+struct Numbers([u32; ROWS]);
+
+impl Numbers {
+    fn new() -> Numbers {
+        let mut numbers = [0; ROWS];
+        let mut next = 0;
+        for (row, number) in numbers.iter_mut().enumerate() {
+            if [THREE_ROWS, FIVE_ROWS, MONADIC_ROWS].contains(&row) {
+                next = 0;
+            }
+            *number = next;
+            next += row_name(row).is_some() as u32;
+        }
+        Numbers(numbers)
+    }
+
+    /// The words of an instruction that the interpreter found.
+    fn block(&self, instruction: &Instruction) -> Block {
+        let row = self.0[instruction.row];
+        let prefix = instruction.prefix as u32;
+        let parcels = instruction.length - prefix;
+        match instruction.act {
+            Act::Dyadic { source, destination, .. } if parcels == 1 => {
+                [1, row, 0, 0, 0, mode_and_value(source).1, 0, mode_and_value(destination).1]
+            }
+            Act::Monadic { value, .. } if parcels == 1 => [1, row, 0, 0, 0, value, 0, 0],
+            Act::Niladic(_) => [1, row, 0, 0, 0, 0, 0, 0],
+            Act::Dyadic { source, destination, .. } => {
+                let ((from, value), (to, other)) = (mode_and_value(source), mode_and_value(destination));
+                [2, row, parcels, prefix, from, value, to, other]
+            }
+            Act::Monadic { monadic, mode, value } => {
+                // the modes of Table 1-23 come after the word modes of Table 1-21
+                let first = if flows(monadic) { 4 } else { 0 };
+                [3, row, 0, prefix, first + mode as u32 - 0xC, value, 0, 0]
+            }
+        }
+    }
+
+    /// What the call has to give for a text: a block or a number.
+    fn expected(&self, text: &[u16]) -> Result<Block, u32> {
+        let needed = needed(text);
+        if text.len() < needed {
+            return Err(CUT_TEXT);
+        }
+        match decode(&text[..needed]) {
+            Decoded::Is(instruction) => Ok(self.block(&instruction)),
+            Decoded::Illegal => Err(ILLEGAL),
+            Decoded::Unimplemented => Err(UNIMPLEMENTED),
+            Decoded::Trap => Err(TRAPPED),
+        }
+    }
+}
+
+fn mode_and_value(operand: Operand) -> (u32, u32) {
+    match operand {
+        Operand::General { mode, value } => (mode as u32, value),
+        Operand::Register(number) => (REGISTER, number),
+    }
+}
+
+fn flows(monadic: Monadic) -> bool {
+    use Monadic::*;
+    matches!(monadic, Call | Jmp | JmpFalse | JmpTrue | Ldraa)
+}
+
+/// How many parcels the first, or the one after a prefix, calls for, as far as they are there.
+fn needed(text: &[u16]) -> usize {
+    match text {
+        [] => 1,
+        [PREFIX] => 2,
+        [PREFIX, second, ..] => 2 + following(*second),
+        [first, ..] => 1 + following(*first),
+    }
+}
+
+/// The parcels of a text that decodes, with the bits above a register's number zero: mode 7 after a prefix.
+fn cleared(text: &[u16]) -> [u16; 6] {
+    let mut parcels = [0; 6];
+    parcels[..text.len()].copy_from_slice(text);
+    let first = parcels[1];
+    let dyadic = first >> 14 == 3 || first >> 8 & 0x3F != 0;
+    if text[0] == PREFIX && dyadic {
+        for (field, mode) in [first >> 4 & 0xF, first & 0xF].into_iter().enumerate() {
+            if mode == 7 && text.len() == 4 {
+                parcels[2 + field] &= 0xF;
+            }
+            if mode == 7 && text.len() == 6 {
+                parcels[2 + 2 * field] = 0;
+                parcels[3 + 2 * field] &= 0xF;
+            }
+        }
+    }
+    parcels
+}
+
+/// The library's answer in the same form; a refusal that touched the block is none.
+fn decoded(text: &[u16]) -> Result<Block, u32> {
+    let mut block = [LEFT; 8];
+    match link::decode(text, &mut block) {
+        0 => Ok(block),
+        number if block == [LEFT; 8] => Err(number),
+        number => Err(number | LEFT),
+    }
+}
+
+fn encoded(block: &Block, length: u32) -> Result<[u16; 6], u32> {
+    let mut parcels = [LEFT as u16; 6];
+    match link::encode(block, length, &mut parcels) {
+        0 => Ok(parcels),
+        number if parcels == [LEFT as u16; 6] => Err(number),
+        number => Err(number | LEFT),
+    }
+}
+
+/// Parcels that follow: any, and small ones, which are offsets and register numbers.
+fn parcel(random: &mut Random) -> u16 {
+    match random.below(4) {
+        0 => random.below(16) as u16,
+        1 => (random.below(64) * 4) as u16,
+        2 => 0u16.wrapping_sub(random.below(64) as u16 * 4),
+        _ => random.word() as u16,
+    }
+}
+
+impl Summary {
+    fn compare_text(&mut self, numbers: &Numbers, text: &[u16]) -> Option<Block> {
+        let (ours, theirs) = (numbers.expected(text), decoded(text));
+        self.texts += 1;
+        if ours != theirs {
+            self.differences += 1;
+            println!("difference: hobbit_decode of {text:04X?}: interpreter {ours:X?}, library {theirs:X?}");
+            return None;
+        }
+        ours.ok()
+    }
+
+    fn compare_coded(&mut self, block: &Block, length: u32, ours: Result<[u16; 6], u32>) {
+        let theirs = encoded(block, length);
+        if ours != theirs {
+            self.differences += 1;
+            println!(
+                "difference: hobbit_encode of {block:X?} at {length}: {ours:04X?} expected, library {theirs:04X?}"
+            );
+        }
+    }
+
+    /// A text whole, before other parcels and cut everywhere; what it decodes to encodes to it at its length alone.
+    fn compare_cuts(&mut self, numbers: &Numbers, parcels: &[u16]) {
+        let whole = needed(parcels);
+        for count in 0..whole {
+            self.compare_text(numbers, &parcels[..count]);
+        }
+        self.compare_text(numbers, parcels);
+        if let Some(block) = self.compare_text(numbers, &parcels[..whole]) {
+            for length in 0..8 {
+                let same = length as usize == whole;
+                let ours = if same { Ok(cleared(&parcels[..whole])) } else { Err(NO_CODE) };
+                self.compare_coded(&block, length, ours);
+            }
+            self.encoded += 1;
+        }
+    }
+
+    /// A block that need not name an instruction is refused, or gives parcels that decode to it.
+    fn compare_block(&mut self, numbers: &Numbers, block: &Block, length: u32) {
+        self.blocks += 1;
+        match encoded(block, length) {
+            Err(NO_CODE) => {}
+            Err(number) => {
+                self.differences += 1;
+                println!("difference: hobbit_encode of {block:X?} at {length} answers {number:X}");
+            }
+            Ok(parcels) => {
+                self.coded += 1;
+                let text = &parcels[..(length as usize).min(6)];
+                let rest_zero = parcels[text.len()..].iter().all(|parcel| *parcel == 0);
+                if self.compare_text(numbers, text) != Some(*block) || !rest_zero {
+                    self.differences += 1;
+                    println!("difference: hobbit_encode of {block:X?} at {length} gives {parcels:04X?}");
+                }
+            }
+        }
+    }
+}
+
+/// Words of a block near those of an instruction, and now and then any.
+fn random_block(random: &mut Random) -> (Block, u32) {
+    let form = random.below(5);
+    let wide = if form == 2 { random.pick(&[3, 5]) } else { 0 };
+    let prefix = random.below(2) * (form != 1) as u32;
+    let modes = [0, 0].map(|_: u32| match form {
+        2 if prefix == 1 => random.pick(&[0xC, 0xD, 0xE, 0xF, REGISTER]),
+        2 => random.below(18),
+        3 => random.below(9),
+        _ => 0,
+    });
+    let values = [0, 0].map(|_: u32| match random.below(4) {
+        0 => random.word(),
+        1 => parcel(random) as i16 as u32,
+        _ => random.below(64) * 4,
+    });
+    let row = random.below(if form == 1 {
+        42
+    } else if form == 2 {
+        37
+    } else {
+        16
+    });
+    let mut block = [form, row, wide, prefix, modes[0], values[0], modes[1], values[1]];
+    if form == 3 {
+        block[6..].fill(0);
+    }
+    // offsets in quad-words, ENTER's filled with ones, and no destination
+    if form == 1 && random.chance(30) {
+        (block[5], block[7]) = (random.pick(&[0, 0xFFFF_F000]) + random.below(16) * 16, 0);
+    }
+    if random.chance(20) {
+        block[random.below(8) as usize] = random.pick(&[1, 2, 16, 39, 256, u32::MAX]);
+    }
+    let length = match form {
+        1 => 1,
+        2 => wide + prefix,
+        _ => 3 + prefix,
+    };
+    (block, if random.chance(5) { random.word() >> random.below(32) } else { length })
+}
+
+/// All first parcels, then random blocks.
+pub fn compare(seed: u64, summary: &mut Summary) {
+    let numbers = Numbers::new();
+    let mut random = Random::new(seed);
+    for first in 0..=u16::MAX {
+        for _ in 0..ROUNDS {
+            let parcels: [u16; 7] = std::array::from_fn(|_| parcel(&mut random));
+            let mut bare = parcels;
+            bare[0] = first;
+            let mut prefixed = parcels;
+            prefixed[..2].copy_from_slice(&[PREFIX, first]);
+            summary.compare_cuts(&numbers, &bare);
+            summary.compare_cuts(&numbers, &prefixed);
+        }
+        if summary.differences >= SHOWN {
+            return;
+        }
+    }
+    for _ in 0..BLOCKS {
+        let (block, length) = random_block(&mut random);
+        summary.compare_block(&numbers, &block, length);
+        if summary.differences >= SHOWN {
+            return;
+        }
+    }
+}
