@@ -44,12 +44,12 @@ module _ (q : Access) (stb a : ℕ) (user : Bool) (k : Kind) (t : Journaled) (ek
   unfolding route
   physical-is er = ap (λ (w : Walk). followed q w t) (sym (rw (er, ea) refl)) ∙ aligned-is q t h
 
-fits-is : (w : Width) (a : ℕ) → a < 2 ^ 32 → eqb (a % 2 ^ 32 % bytesOf w) 0 ≡ fitsWidth w a
+pub fits-is : (w : Width) (a : ℕ) → a < 2 ^ 32 → eqb (a % 2 ^ 32 % bytesOf w) 0 ≡ fitsWidth w a
 fits-is Byte a h = eq-eqb (a % 2 ^ 32 % 1) 0 (omega arith)
 fits-is Half a h = ap (λ (n : ℕ). eqb (n % 2) 0) (mod-eq-of-lt {n = a} {m = 2 ^ 32} h)
 fits-is Word a h = ap (λ (n : ℕ). eqb (n % 4) 0) (mod-eq-of-lt {n = a} {m = 2 ^ 32} h)
 
-word-is : (a : ℕ) → a < 2 ^ 32 → a % 2 ^ 32 ≡ a
+pub word-is : (a : ℕ) → a < 2 ^ 32 → a % 2 ^ 32 ≡ a
 word-is a h = mod-eq-of-lt {n = a} {m = 2 ^ 32} h
 
 -- ---- reads
@@ -161,10 +161,10 @@ module _ (r : Regime) (x : ℕ) (m : Memory) (a : List ℕ) (o : List (List ℕ)
   fetch-paged k p pa z n b u e f d g =
       rw (sym e ∙ f) (ap (λ (v : Answer). gave v (journaled n b u)) g ∙ ap (λ (t : Journaled). gave (load 2 (t .memory) pa) t) d)
 
-text-is : (r : Regime) (x : ℕ) → x < 2 ^ 32 → addressOf (fetch r x) ≡ x / 2 * 2
+pub text-is : (r : Regime) (x : ℕ) → x < 2 ^ 32 → addressOf (fetch r x) ≡ x / 2 * 2
 text-is r x h = ap (λ (n : ℕ). n / 2 * 2) (word-is x h)
 
-even : (r : Regime) (x : ℕ) → aligned (fetch r x) ≡ true
+pub even : (r : Regime) (x : ℕ) → aligned (fetch r x) ≡ true
 even r x = eq-eqb (x % 2 ^ 32 / 2 * 2 % 2) 0 (omega arith)
 
 module _ (stb : ℕ) (user translated : Bool) (x : ℕ) (m : Memory) (a : List ℕ) (o : List (List ℕ)) where

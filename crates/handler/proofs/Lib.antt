@@ -1,4 +1,5 @@
 pub mod Laws
 pub mod AccessLaws
 pub mod QuadLaws
+pub mod QuietLaws
 pub mod UndoLaws

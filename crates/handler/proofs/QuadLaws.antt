@@ -52,6 +52,9 @@ module _ (user : Bool) (stb : ℕ) (a : ℕ) (m : Memory) (pa i : ℕ) (few : i 
   near : a % 16 ≡ 0 → a + i < 2 ^ 32
   near h = omega arith
 
+  in-page : a % 16 ≡ 0 → a % 0x1000 + i < 0x1000
+  in-page h = omega arith
+
   aligned : a % 16 ≡ 0 → fitsWidth Word (a + i) ≡ true
   aligned h = eq-eqb ((a + i) % 4) 0 (omega arith)
 
@@ -60,7 +63,7 @@ module _ (user : Bool) (stb : ℕ) (a : ℕ) (m : Memory) (pa i : ℕ) (few : i 
   read-near k z g o w =
       read-virtual stb user true Word (a + i) m o w (fitsWidth Word (a + i)) (gave z (journaled m o w)) (near (k .start)) refl (aligned (k .start)) refl
       (read-paged (regimeFor stb user true) Word (a + i) m o w (walk user stb Read (a + i) m) (walk user stb Read (a + i) m) (k .entry) (pa + i) z m o w
-      refl (walk-beside user stb Read a i (k .start) few m (k .entry) pa (k .found)) (entry-old Read (k .entry) m o w (fresh Read (k .entry) m) refl (k .old)) g)
+      refl (walk-beside user stb Read a i (in-page (k .start)) m (k .entry) pa (k .found)) (entry-old Read (k .entry) m o w (fresh Read (k .entry) m) refl (k .old)) g)
 
   pub read-low : Quad user stb Read a m pa → (x : ℕ) → answerOf x ≡ load 4 m (pa + i) → x < 2 ^ 32
   unfolding load
@@ -77,7 +80,7 @@ module _ (user : Bool) (stb : ℕ) (a : ℕ) (m : Memory) (pa i : ℕ) (few : i 
     write-near g e =
         write-virtual stb user true Word (a + i) v m o w (fitsWidth Word (a + i)) g (near (k .start)) refl (aligned (k .start)) refl
         (write-paged (regimeFor stb user true) Word (a + i) v m o w (walk user stb Write (a + i) m) (walk user stb Write (a + i) m) (k .entry) (pa + i) g m o w
-        refl (walk-beside user stb Write a i (k .start) few m (k .entry) pa (k .found)) (entry-old Write (k .entry) m o w (fresh Write (k .entry) m) refl (k .old)) e)
+        refl (walk-beside user stb Write a i (in-page (k .start)) m (k .entry) pa (k .found)) (entry-old Write (k .entry) m o w (fresh Write (k .entry) m) refl (k .old)) e)
 
     -- the store leaves both entries
     entry-word : k .entry % 4 ≡ 0

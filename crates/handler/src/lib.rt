@@ -2,3 +2,4 @@
 pub mod accesses;
 pub mod journal;
 pub mod quads;
+pub mod quiet;

@@ -3,7 +3,7 @@ use mmu::Kind;
 use mmu::Walk;
 use mmu::entries::segment_place;
 use mmu::recording::is_fresh;
-use mmu::translation::translate;
+use mmu::translation::translate_quad;
 ghost use mathlib.Core.Path.{_≡_};
 ghost use Prim.Native.Nat.{_^_, _<_};
 ghost use Rattle.mmu.specs.declared.Walk.the-variants as walked;
@@ -37,7 +37,7 @@ fn in_page(m: &[u8], stb: u32, user: bool, k: Kind, a: u32, p: u32, pa: u32) -> 
 pub fn quad_place(m: &[u8], stb: u32, user: bool, k: Kind, a: u32) -> u64
     ensures { λ x. ⌜ (x < 2 ^ 32 → Quad user stb k a (now (m .entry)) x) ⌝ }
 {
-    let w = translate(m, user, stb, k, a);
+    let w = translate_quad(m, user, stb, k, a);
     match w {
         Walk::Fault(_) => 0x1_0000_0000,
         Walk::Direct(_) => 0x1_0000_0000,

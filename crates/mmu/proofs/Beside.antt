@@ -1,17 +1,20 @@
--- The walks of a quad-word's bytes end in one page, one beside the other.
+-- The walks of bytes of one page end one beside the other.
 -- Assumes nothing.
 use mathlib.Core.Path.{_≡_, refl, ap}
 use mathlib.Core.Bool.{Bool, true, false, cond, _&&_}
 use Prim.Native.Nat.{ℕ, _+_, _*_, _/_, _%_, _<_}
 use native.Mathlib.Omega.{arith}
 use lib.ListN.{length}
+use lib.Dec.{leb}
 use Rattle.memory.specs.Bytes.{Memory, number}
 use Rattle.mmu.specs.declared.Kind.{Kind}
-use Rattle.mmu.specs.declared.Walk.the-variants.{Fault, Paged}
-use Rattle.mmu.specs.Walk.{faultOf, segmentPlace, pagePlace, valid, permits, segmentOf, segment, pageOf, walkFrom, walk}
+use Rattle.mmu.specs.declared.Segment.{Segment}
+use Rattle.mmu.specs.declared.Segment.the-variants.{Outside, Invalid, Nonpaged, Table}
+use Rattle.mmu.specs.declared.Walk.the-variants.{Fault, Direct, Paged}
+use Rattle.mmu.specs.Walk.{faultOf, segmentPlace, pagePlace, valid, permits, segmentOf, segment, nonpagedOf, pageOf, walkFrom, walk}
 use Rattle.mmu.proofs.Shape.{walk-paged}
 
-module _ (user : Bool) (stb : ℕ) (k : Kind) (va i : ℕ) (quad : va % 16 ≡ 0) (few : i < 16) where
+module _ (user : Bool) (stb : ℕ) (k : Kind) (va i : ℕ) (page : va % 0x1000 + i < 0x1000) where
   pub segment-place-beside : segmentPlace stb (va + i) ≡ segmentPlace stb va
   segment-place-beside = omega arith
 
@@ -38,6 +41,34 @@ module _ (user : Bool) (stb : ℕ) (k : Kind) (va i : ℕ) (quad : va % 16 ≡ 0
   walk-beside m p pa h =
       let s = walk-paged user stb k va m p pa h .found in
       rw (segment-beside m, s) (page-beside p (number 4 m p) pa (rw s at h))
+
+  nonpaged-beside : (e pa : ℕ) → nonpagedOf user k va e ≡ Direct pa → nonpagedOf user k (va + i) e ≡ Direct (pa + i)
+  unfolding nonpagedOf
+  nonpaged-beside e pa h = rw number-beside (go (leb (va / 0x1000 % 0x400) (e / 0x1000 % 0x400) && permits user k e) h)
+    where
+      number-beside : (va + i) / 0x1000 % 0x400 ≡ va / 0x1000 % 0x400
+      number-beside = omega arith
+
+      go : (t : Bool) → cond t (Direct (e / 0x40_0000 * 0x40_0000 + va % 0x40_0000)) (Fault (faultOf k)) ≡ Direct pa
+          → cond t (Direct (e / 0x40_0000 * 0x40_0000 + (va + i) % 0x40_0000)) (Fault (faultOf k)) ≡ Direct (pa + i)
+      go true q =
+          let f : e / 0x40_0000 * 0x40_0000 + va % 0x40_0000 ≡ pa = cc in
+          ap (λ (x : ℕ). Direct x) (omega arith)
+      go false q = let z : _≡_ {A = ℕ} 0 1 = cc in absurd (omega arith)
+
+  pub direct-beside : (m : Memory) (pa : ℕ) → walk user stb k va m ≡ Direct pa → walk user stb k (va + i) m ≡ Direct (pa + i)
+  unfolding walk walkFrom pageOf
+  direct-beside m pa h = rw (segment-beside m) (go (segment stb va m) h)
+    where
+      paged : (p x : ℕ) (t : Bool) → cond t (Paged p x) (Fault (faultOf k)) ≡ Direct pa → ⊥
+      paged p x true q = let z : _≡_ {A = ℕ} 0 1 = cc in omega arith
+      paged p x false q = let z : _≡_ {A = ℕ} 0 1 = cc in omega arith
+
+      go : (s : Segment) → walkFrom user k va m s ≡ Direct pa → walkFrom user k (va + i) m s ≡ Direct (pa + i)
+      go Outside q = let z : _≡_ {A = ℕ} 0 1 = cc in absurd (omega arith)
+      go Invalid q = let z : _≡_ {A = ℕ} 0 1 = cc in absurd (omega arith)
+      go (Nonpaged e) q = nonpaged-beside e pa q
+      go (Table p) q = absurd (paged p (number 4 m p / 0x1000 * 0x1000 + va % 0x1000) (valid (number 4 m p) && permits user k (number 4 m p)) q)
 
 -- a memory of the same length with the same two entries has the same walk
 module _ (user : Bool) (stb : ℕ) (k : Kind) (va : ℕ) (m n : Memory) (p pa : ℕ) (len : length n ≡ length m) (first : number 4 n (segmentPlace stb va) ≡ number 4 m (segmentPlace stb va)) where

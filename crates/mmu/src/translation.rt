@@ -90,7 +90,22 @@ pub fn translate(m: &[u8], user: bool, stb: u32, k: Kind, va: u32) -> Walk
     second_stage(m, user, stb, k, va, s)
 }
 
-// The walks of accesses: each has one caller, so that the compiler lays it there.
+// The same for the place of a quad-word and for a place whose walk sets no bit, and the walks of accesses: each has one
+// caller, so that the compiler lays it there.
+pub fn translate_quad(m: &[u8], user: bool, stb: u32, k: Kind, va: u32) -> Walk
+    ensures { λ r. ⌜ r ≡ walk user stb k va (now (m .entry)) ⌝ }
+{
+    let s = segment_entry(m, stb, va);
+    second_stage(m, user, stb, k, va, s)
+}
+
+pub fn translate_quiet(m: &[u8], user: bool, stb: u32, k: Kind, va: u32) -> Walk
+    ensures { λ r. ⌜ r ≡ walk user stb k va (now (m .entry)) ⌝ }
+{
+    let s = segment_entry(m, stb, va);
+    second_stage(m, user, stb, k, va, s)
+}
+
 pub fn translate_fetch(m: &[u8], user: bool, stb: u32, va: u32) -> Walk
     ensures { λ r. ⌜ r ≡ walk user stb kind.Fetch va (now (m .entry)) ⌝ }
 {

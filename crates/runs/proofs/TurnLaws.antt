@@ -182,9 +182,10 @@ module _ (level : ℕ) (b : Bank) (q : Cache) (m : Memory) (i : Bank) (ei : Made
 
 -- ---- either kind
 
-module _ (confined : Bool) (level : ℕ) (s : Board) (t : Turn) where
-  pub takes-confined : confined ≡ true → t ≡ confinedTurn level s → t ≡ turnOf confined level s
-  takes-confined h e = rw h e
+-- where the quick way did not go, all is as it was
+module _ (confined : Bool) (level : ℕ) (b d : Bank) (q p : Cache) (m n : Memory) (same : (n ≡ m) × (d ≡ b) × (p ≡ q)) (t : Turn) where
+  pub takes-confined : confined ≡ true → t ≡ confinedTurn level (board (cpu d p) n) → t ≡ turnOf confined level (board (cpu b q) m)
+  takes-confined h e = rw (h, ← same .0, ← same .1, ← same .2) e
 
-  pub takes-events : confined ≡ false → t ≡ turn level s → t ≡ turnOf confined level s
-  takes-events h e = rw h e
+  pub takes-events : confined ≡ false → t ≡ turn level (board (cpu d p) n) → t ≡ turnOf confined level (board (cpu b q) m)
+  takes-events h e = rw (h, ← same .0, ← same .1, ← same .2) e

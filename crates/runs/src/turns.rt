@@ -10,6 +10,7 @@ use handler::journal::undo;
 use machine::registers::stack_held;
 use machine::status::is_user;
 use memory::answers::low32;
+use quick::turns::quick_turn;
 use rows::tracing::traces_at;
 use steps::stepping::step;
 ghost use mathlib.Core.Path.{_≡_};
@@ -123,7 +124,7 @@ fn confined_turn(
     judge(m, places, words, q, r, &bank, &cache, 0)
 }
 
-// A turn of either kind.
+// A turn of either kind: the quick way where that goes, else with all that may have to be put back.
 pub(crate) fn take_turn(
     m: &mut [u8],
     places: &mut [u32; 201],
@@ -136,6 +137,9 @@ pub(crate) fn take_turn(
     requires { ⌜ (length (now m) % 4 ≡ 0) × (length (now places) ≡ 201) × (length (now words) ≡ 200) ⌝ }
     ensures { λ y. ⌜ (turned y (board (cpu (now (r .exit)) (now (q .exit))) (now (m .exit))) ≡ turnOf confined level (board (cpu (now (r .entry)) (now (q .entry))) (now (m .entry)))) × (length (now (places .exit)) ≡ 201) × (length (now (words .exit)) ≡ 200) ⌝ }
 {
+    if quick_turn(m, q, r, level) {
+        return 0;
+    }
     if confined {
         confined_turn(m, places, words, q, r, level)
     } else {

@@ -1,6 +1,6 @@
 -- The ways out of event sequences, and what is due by its number.
 -- Assumes nothing.
-use Prim.Native.Nat.{ℕ, _+_, _-_, _^_, _<_, _≤_}
+use Prim.Native.Nat.{ℕ, _-_, _^_, _<_, _≤_}
 use mathlib.Core.Path.{_≡_, refl, sym, ap, _∙_}
 use mathlib.Core.Bool.{Bool, true, false, cond, not, _&&_}
 use native.Mathlib.Omega.{arith}
@@ -22,6 +22,7 @@ use Rattle.step.specs.Events.{Due, none, interrupt, timer1, timer2, trace, isDu
 use Rattle.step.specs.Step.{stepped, settled, eventStep, exceptionStep, instructionStep, stepFor}
 use Rattle.bank.specs.Dues.{dueFrom, takenOf, vectorOf, isTrace}
 use Rattle.bank.proofs.EventLaws.{asked}
+use Rattle.bank.proofs.Laws.{due-known}
 use Rattle.control.proofs.FlowLaws.{Made}
 
 -- ---- what a sequence leaves
@@ -92,34 +93,25 @@ module _ (b : Bank) (q : Cache) (k : ℕ) (s : Bank) (es : Made b s (λ c. taken
 
 -- ---- the number of what is due says what it is
 
-abbrev Known : Due → Type 0
-Known d = (dueFrom (dueCode d) ≡ d) × (dueCode d < 32)
-
-level-known : (n : ℕ) → n ≤ 6 → Known (interrupt n)
-level-known n h = (simp (ne-eqb (0x10 + n) 0 (λ e. omega arith), ne-eqb (0x10 + n) 2 (λ e. omega arith), ne-eqb (0x10 + n) 0x17 (λ e. omega arith), ne-eqb (0x10 + n) 0x18 (λ e. omega arith), back), omega arith)
-  where
-    back : 0x10 + n - 0x10 ≡ n
-    back = omega arith
-
-due-known : (level : ℕ) (b : Bank) → (dueFrom (dueCode (dueOf level b)) ≡ dueOf level b) × (dueCode (dueOf level b) < 32)
-due-known level b =
+due-below : (level : ℕ) (b : Bank) → dueCode (dueOf level b) < 32
+due-below level b =
     go (eqb level 0 && not (isDue b nmiTaken)) (eqb level 1 && ltb 1 (priority b)) (isDue b timer1Due && ltb 1 (priority b)) (isDue b timer2Due && ltb 1 (priority b)) (leb 2 level && leb level 6 && ltb level (priority b)) (isDue b traceDue) (asked level (priority b))
   where
-    go : (f g h i j k : Bool) → (j ≡ true → level ≤ 6) → Known (cond f (interrupt 0) (cond g (interrupt 1) (cond h timer1 (cond i timer2 (cond j (interrupt level) (cond k trace none))))))
-    go true g h i j k l = level-known 0 (omega arith)
-    go false true h i j k l = level-known 1 (omega arith)
-    go false false true i j k l = (refl, omega arith)
-    go false false false true j k l = (refl, omega arith)
-    go false false false false true k l = level-known level (l refl)
-    go false false false false false true l = (refl, omega arith)
-    go false false false false false false l = (refl, omega arith)
+    go : (f g h i j k : Bool) → (j ≡ true → level ≤ 6) → dueCode (cond f (interrupt 0) (cond g (interrupt 1) (cond h timer1 (cond i timer2 (cond j (interrupt level) (cond k trace none)))))) < 32
+    go true g h i j k l = omega arith
+    go false true h i j k l = omega arith
+    go false false true i j k l = omega arith
+    go false false false true j k l = omega arith
+    go false false false false true k l = let low : level ≤ 6 = l refl in omega (arith, low)
+    go false false false false false true l = omega arith
+    go false false false false false false l = omega arith
 
 module _ (level : ℕ) (b : Bank) (k : ℕ) (e : k ≡ dueCode (dueOf level b)) where
   pub due-is : dueFrom k ≡ dueOf level b
-  due-is = ap (λ (n : ℕ). dueFrom n) e ∙ due-known level b .0
+  due-is = ap (λ (n : ℕ). dueFrom n) e ∙ due-known level b
 
   pub due-small : k < 32
-  due-small = rw e (due-known level b .1)
+  due-small = rw e (due-below level b)
 
 -- what holds of each event holds of a number that is not 0
 pub due-cases : (k : ℕ) (P : Due → Type 0) → (k ≡ 0 → ⊥) → P trace → P timer1 → P timer2 → P (interrupt (k - 0x10)) → P (dueFrom k)

@@ -4,8 +4,8 @@ use borrow.Author.Needs.{needs}
 use Rattle.handler.proofs.quads.quad_place.Statement.{statement}
 use Rattle.handler.proofs.quads.quad_place.Tie as tie
 
-translate-requires : tie.Need-translate-requires
-translate-requires c κs = search needs
+translate-quad-requires : tie.Need-translate-quad-requires
+translate-quad-requires c κs = search needs
 
 enum-told : tie.Need-enum-told
 enum-told c = search needs
@@ -32,7 +32,7 @@ pub quad-place-spec : {M : Type 1} → statement M
 quad-place-spec =
     tie.close
     (tie.spec
-    translate-requires
+    translate-quad-requires
     enum-told
     enum-told-2
     enum-known-w

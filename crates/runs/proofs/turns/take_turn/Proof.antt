@@ -1,9 +1,17 @@
 use Rattle.runs.proofs.TurnLaws.{takes-confined, takes-events}
-use Rattle.machine.specs.Status.{cpu}
-use Rattle.run.specs.Run.{board}
+use mathlib.Core.Path.{sym}
 use borrow.Author.Needs.{needs}
 use Rattle.runs.proofs.turns.take_turn.Statement.{statement}
 use Rattle.runs.proofs.turns.take_turn.Tie as tie
+
+quick-turn-requires : tie.Need-quick-turn-requires
+quick-turn-requires c κs = search needs
+
+same-length : tie.Need-same-length
+same-length c = search needs
+
+returns : tie.Need-returns
+returns c = (sym (c .before .before .before .quick-turn .ensures .0 (c .if1 .taken) (c .before .before .before .before .before .before .before .before .args .confined)), search needs, search needs)
 
 confined-turn-requires : tie.Need-confined-turn-requires
 confined-turn-requires c κs = search needs
@@ -11,19 +19,28 @@ confined-turn-requires c κs = search needs
 turn-requires : tie.Need-turn-requires
 turn-requires c κs = search needs
 
-same-length : tie.Need-same-length
-same-length c = search needs
-
-returns : tie.Need-returns
-returns c = (takes-confined (c .before .before .before .before .before .before .before .before .before .before .args .confined) (c .before .before .before .before .before .before .before .before .before .before .args .level) (board (cpu (c .before .before .before .before .before .before .before .before .before .before .args .r .now) (c .before .before .before .before .before .before .before .before .before .before .args .q .now)) (c .before .before .before .before .before .before .before .before .before .before .args .m .now)) _ (c .before .before .before .before .before .before .before .before .if1 .taken) (c .before .before .confined-turn .ensures .0), c .before .before .confined-turn .ensures .1, c .before .before .confined-turn .ensures .2)
-
 same-length-2 : tie.Need-same-length-2
 same-length-2 c = search needs
 
 returns-2 : tie.Need-returns-2
-returns-2 c = (takes-events (c .before .before .before .before .before .before .before .before .before .before .args .confined) (c .before .before .before .before .before .before .before .before .before .before .args .level) (board (cpu (c .before .before .before .before .before .before .before .before .before .before .args .r .now) (c .before .before .before .before .before .before .before .before .before .before .args .q .now)) (c .before .before .before .before .before .before .before .before .before .before .args .m .now)) _ (c .before .before .before .before .before .before .before .before .if1 .left) (c .before .before .turn .ensures .0), c .before .before .turn .ensures .1, c .before .before .turn .ensures .2)
+returns-2 c = (takes-confined (c .before .before .before .before .before .before .before .before .before .before .before .before .before .before .before .before .before .args .confined) (c .before .before .before .before .before .before .before .before .before .before .before .before .before .before .before .before .before .args .level) (c .before .before .before .before .before .before .before .before .before .before .before .before .before .before .before .before .before .args .r .now) _ (c .before .before .before .before .before .before .before .before .before .before .before .before .before .before .before .before .before .args .q .now) _ (c .before .before .before .before .before .before .before .before .before .before .before .before .before .before .before .before .before .args .m .now) _ (c .before .before .before .before .before .before .before .before .before .before .before .before .quick-turn .ensures .1 (c .before .before .before .before .before .before .before .before .before .if1 .left)) _ (c .before .before .before .before .before .before .before .before .if2 .taken) (c .before .before .confined-turn .ensures .0), c .before .before .confined-turn .ensures .1, c .before .before .confined-turn .ensures .2)
+
+same-length-3 : tie.Need-same-length-3
+same-length-3 c = search needs
+
+returns-3 : tie.Need-returns-3
+returns-3 c = (takes-events (c .before .before .before .before .before .before .before .before .before .before .before .before .before .before .before .before .before .args .confined) (c .before .before .before .before .before .before .before .before .before .before .before .before .before .before .before .before .before .args .level) (c .before .before .before .before .before .before .before .before .before .before .before .before .before .before .before .before .before .args .r .now) _ (c .before .before .before .before .before .before .before .before .before .before .before .before .before .before .before .before .before .args .q .now) _ (c .before .before .before .before .before .before .before .before .before .before .before .before .before .before .before .before .before .args .m .now) _ (c .before .before .before .before .before .before .before .before .before .before .before .before .quick-turn .ensures .1 (c .before .before .before .before .before .before .before .before .before .if1 .left)) _ (c .before .before .before .before .before .before .before .before .if2 .left) (c .before .before .turn .ensures .0), c .before .before .turn .ensures .1, c .before .before .turn .ensures .2)
 
 pub take-turn-spec : {M : Type 1} → statement M
 take-turn-spec =
     tie.close
-    (tie.spec confined-turn-requires turn-requires same-length returns same-length-2 returns-2)
+    (tie.spec
+    quick-turn-requires
+    same-length
+    returns
+    confined-turn-requires
+    turn-requires
+    same-length-2
+    returns-2
+    same-length-3
+    returns-3)

@@ -1,0 +1,138 @@
+-- The text at PC, by one walk.
+-- Assumes nothing.
+use Prim.Native.Nat.{ℕ, zero, suc, _+_, _-_, _*_, _/_, _%_, _^_, _<_, _≤_}
+use mathlib.Core.Path.{_≡_, refl, sym, ap, subst, _∙_}
+use mathlib.Core.Bool.{Bool, true, false, cond}
+use mathlib.Core.List.{List, [], _∷_}
+use native.Mathlib.Omega.{arith}
+use lib.Dec.{eqb, ltb}
+use lib.ListN.{length, getD}
+use borrow.Author.Tests.{le-leb, lt-ltb, le-ltb}
+use Rattle.word.specs.Sums.{plusOf}
+use Rattle.memory.specs.Answers.{got}
+use Rattle.memory.specs.Bytes.{Memory, byteAt, number, load}
+use Rattle.mmu.specs.declared.Kind.the-variants.{Fetch}
+use Rattle.program.specs.Program.{interpret}
+use Rattle.machine.specs.Registers.{Bank, word, pc, stb}
+use Rattle.machine.specs.Cache.{Cache}
+use Rattle.machine.specs.Status.{cpu, isUser, isVirtual, regime}
+use Rattle.handler.specs.Followed.{regimeFor}
+use Rattle.handler.specs.Quiet.{Quiet}
+use Rattle.handler.proofs.QuietLaws.{fetch-quiet, quiet-beside}
+use Rattle.access.specs.Parts.{done, parcelRequest}
+use Rattle.access.specs.Text.{fetchParcel, fetchParcels, following, fetchAfter, fetchText}
+use Rattle.isa.specs.Decode.{decodeShort, decodeWide, decodeBare, decodeOf, cpuPrefix, textOf}
+use Rattle.quick.specs.Quick.{gives}
+use Rattle.quick.specs.Performed.{parcelAt, parcelsFrom, textAt}
+use Rattle.quick.proofs.GiveLaws.{gives-then, gives-done}
+use Rattle.quick.proofs.AccessLaws.{regime-is}
+
+pub quiet-here : (b : Bank) (s : ℕ) (u t : Bool) → u ≡ isUser b → t ≡ isVirtual b → s ≡ word b stb → (a : ℕ) (m : Memory) (x : ℕ) → Quiet (regimeFor s u t) Fetch a m x → Quiet (regime b) Fetch a m x
+quiet-here b s u t eu et es a m x k = subst (λ g. Quiet g Fetch a m x) (regime-is b s u t eu et es) k
+
+-- ---- parcels
+
+pub two-bytes : (m : Memory) (k r : ℕ) → r ≡ byteAt m k * 256 + byteAt m (k + 1) → r % 2 ^ 16 ≡ parcelAt m k
+two-bytes m k r e = let z : k + 0 ≡ k = omega arith in ap (λ (n : ℕ). n % 2 ^ 16) (e ∙ sym (rw z (omega arith)))
+
+loaded : (m : Memory) (k : ℕ) → k + 2 ≤ length m → load 2 m k ≡ got (number 2 m k)
+unfolding load
+loaded m k h = rw (le-leb (k + 2) (length m) h) refl
+
+module _ (b : Bank) (q : Cache) (m : Memory) where
+  none : (a : ℕ) → fetchParcels (cpu b q) a 0 ≡ done []
+  unfolding fetchParcels
+  none a = refl
+
+  parcel-quiet : (a k : ℕ) → Quiet (regime b) Fetch a m k → a % 2 ≡ 0 → a < 2 ^ 32 → k + 2 ≤ length m → gives (fetchParcel (cpu b q) a) m (parcelAt m k) m
+  unfolding fetchParcel parcelRequest interpret
+  parcel-quiet a k h e l i =
+      let even : a / 2 * 2 ≡ a = omega arith in
+      rw (fetch-quiet (regime b) m k a l (rw even h), loaded m k i) refl
+
+  -- one parcel and n more
+  more-quiet : (n a k : ℕ) → Quiet (regime b) Fetch a m k → a % 2 ≡ 0 → a < 2 ^ 32 → a % 0x1000 + (2 * n + 2) ≤ 0x1000 → k + (2 * n + 2) ≤ length m
+      → gives (fetchParcels (cpu b q) a (suc n)) m (parcelsFrom m k (suc n)) m
+  unfolding fetchParcels
+  more-quiet zero a k h e l f i =
+      gives-then (fetchParcel (cpu b q) a) _ m m m (parcelAt m k) (parcelAt m k ∷ []) (parcel-quiet a k h e l (omega (arith, i)))
+      (gives-then (fetchParcels (cpu b q) (plusOf a 2) 0) _ m m m [] (parcelAt m k ∷ []) (gives-done (done []) [] refl m) (gives-done (done (parcelAt m k ∷ [])) (parcelAt m k ∷ []) refl m))
+  more-quiet (suc n) a k h e l f i =
+      gives-then (fetchParcel (cpu b q) a) _ m m m (parcelAt m k) (parcelsFrom m k (suc (suc n))) (parcel-quiet a k h e l (omega (arith, i)))
+      (gives-then (fetchParcels (cpu b q) (plusOf a 2) (suc n)) _ m m m (parcelsFrom m (k + 2) (suc n)) (parcelsFrom m k (suc (suc n)))
+      (rw near (more-quiet n (a + 2) (k + 2) (quiet-beside (regime b) Fetch a 2 m k (omega (arith, f)) h) (omega (arith, e)) (omega (arith, l, e, f)) (omega (arith, f, e)) (omega (arith, i))))
+      (gives-done (done (parcelsFrom m k (suc (suc n)))) (parcelsFrom m k (suc (suc n))) refl m))
+    where
+      near : plusOf a 2 ≡ a + 2
+      near = omega (arith, l, e, f)
+
+-- ---- the text
+
+module _ (b : Bank) (q : Cache) (m : Memory) (a k : ℕ) (ea : a ≡ word b pc) (h : Quiet (regime b) Fetch a m k) (e : a % 2 ≡ 0) (f : a % 0x1000 + 10 ≤ 0x1000) (l : a < 2 ^ 32) (i : k + 10 ≤ length m) where
+  after-quiet : (p : ℕ) → gives (fetchAfter (cpu b q) p) m (textOf (p ∷ parcelsFrom m (k + 2) (following p))) m
+  unfolding fetchAfter
+  after-quiet p =
+      gives-then (fetchParcels (cpu b q) (plusOf (word b pc) 2) (following p)) _ m m m (parcelsFrom m (k + 2) (following p)) (textOf (p ∷ parcelsFrom m (k + 2) (following p)))
+      (rw (← ea, near) (go (ltb p 0x8000) (ltb p 0xC000)))
+      (gives-done (done (textOf (p ∷ parcelsFrom m (k + 2) (following p)))) (textOf (p ∷ parcelsFrom m (k + 2) (following p))) refl m)
+    where
+      near : plusOf a 2 ≡ a + 2
+      near = omega (arith, l, e, f)
+
+      next : Quiet (regime b) Fetch (a + 2) m (k + 2)
+      next = quiet-beside (regime b) Fetch a 2 m k (omega (arith, f)) h
+
+      go : (u v : Bool) → gives (fetchParcels (cpu b q) (a + 2) (cond u 0 (cond v 2 4))) m (parcelsFrom m (k + 2) (cond u 0 (cond v 2 4))) m
+      go true v = gives-done (fetchParcels (cpu b q) (a + 2) 0) [] (none b q m (a + 2)) m
+      go false true = more-quiet b q m 1 (a + 2) (k + 2) next (omega (arith, e)) (omega (arith, l, e, f)) (omega (arith, f, e)) (omega (arith, i))
+      go false false = more-quiet b q m 3 (a + 2) (k + 2) next (omega (arith, e)) (omega (arith, l, e, f)) (omega (arith, f, e)) (omega (arith, i))
+
+  pub text-quiet : eqb (parcelAt m k) cpuPrefix ≡ false → gives (fetchText (cpu b q)) m (textAt m k) m
+  unfolding fetchText
+  text-quiet g =
+      gives-then (fetchParcel (cpu b q) (word b pc)) _ m m m (parcelAt m k) (textAt m k) (rw (← ea) (parcel-quiet b q m a k h e l (omega (arith, i))))
+      (rw g (after-quiet (parcelAt m k)))
+
+-- ---- what the decoder says of it
+
+bare : (p : ℕ) (ps : List ℕ) → eqb p cpuPrefix ≡ false → decodeOf (textOf (p ∷ ps)) ≡ decodeBare (textOf (p ∷ ps))
+unfolding decodeOf
+bare p ps h = rw (le-ltb (length (p ∷ ps)) 1 (omega arith), h) refl
+
+short-bare : (p : ℕ) (ps : List ℕ) → p < 0x8000 → decodeBare (textOf (p ∷ ps)) ≡ decodeShort p
+unfolding decodeBare
+short-bare p ps h = rw (lt-ltb p 0x8000 h) refl
+
+wide-bare : (p : ℕ) (ps : List ℕ) → 0x8000 ≤ p → decodeBare (textOf (p ∷ ps)) ≡ decodeWide false (length ps) p (getD ps 0 0) (getD ps 1 0) (getD ps 2 0) (getD ps 3 0)
+unfolding decodeBare
+wide-bare p ps h = let n : length (p ∷ ps) - 1 ≡ length ps = omega arith in rw (le-ltb p 0x8000 h, n) refl
+
+-- parcels that the form does not call for say nothing
+wide-cut : (m : Memory) (p k : ℕ) (u : Bool) → ltb p 0xC000 ≡ u
+    → decodeWide false (length (parcelsFrom m k (cond u 2 4))) p (getD (parcelsFrom m k (cond u 2 4)) 0 0) (getD (parcelsFrom m k (cond u 2 4)) 1 0) (getD (parcelsFrom m k (cond u 2 4)) 2 0) (getD (parcelsFrom m k (cond u 2 4)) 3 0)
+    ≡ decodeWide false (cond u 2 4) p (parcelAt m k) (parcelAt m (k + 2)) (parcelAt m (k + 2 + 2)) (parcelAt m (k + 2 + 2 + 2))
+unfolding decodeWide
+wide-cut m p k true e = rw e refl
+wide-cut m p k false e = rw e refl
+
+module _ (m : Memory) (k p : ℕ) (ep : p ≡ parcelAt m k) (plain : eqb (parcelAt m k) cpuPrefix ≡ false) where
+  pub short-decoded : p < 0x8000 → decodeShort p ≡ decodeOf (textAt m k)
+  short-decoded h =
+      ap decodeShort ep ∙ sym (short-bare (parcelAt m k) (parcelsFrom m (k + 2) (following (parcelAt m k))) (rw (← ep) h)) ∙ sym (bare (parcelAt m k) (parcelsFrom m (k + 2) (following (parcelAt m k))) plain)
+
+  pub wide-decoded : 0x8000 ≤ p → (n x y z w : ℕ) → n ≡ cond (ltb p 0xC000) 2 4 → x ≡ parcelAt m (k + 2) → y ≡ parcelAt m (k + 4) → z ≡ parcelAt m (k + 6) → w ≡ parcelAt m (k + 8)
+      → decodeWide false n p x y z w ≡ decodeOf (textAt m k)
+  wide-decoded h n x y z w en ex ey ez ew =
+      rw (en, ex, ey ∙ at 4 (k + 2 + 2) (omega arith), ez ∙ at 6 (k + 2 + 2 + 2) (omega arith), ew ∙ at 8 (k + 2 + 2 + 2 + 2) (omega arith))
+      (subst (λ j. decodeWide false (cond (ltb j 0xC000) 2 4) j (parcelAt m (k + 2)) (parcelAt m (k + 2 + 2)) (parcelAt m (k + 2 + 2 + 2)) (parcelAt m (k + 2 + 2 + 2 + 2)) ≡ decodeOf (textAt m k)) (sym ep)
+      (sym (bare (parcelAt m k) (parcelsFrom m (k + 2) (following (parcelAt m k))) plain ∙ wide-bare (parcelAt m k) (parcelsFrom m (k + 2) (following (parcelAt m k))) high ∙ called)))
+    where
+      at : (i j : ℕ) → k + i ≡ j → parcelAt m (k + i) ≡ parcelAt m j
+      at i j e = ap (parcelAt m) e
+
+      high : 0x8000 ≤ parcelAt m k
+      high = rw (← ep) h
+
+      called : decodeWide false (length (parcelsFrom m (k + 2) (following (parcelAt m k)))) (parcelAt m k) (getD (parcelsFrom m (k + 2) (following (parcelAt m k))) 0 0) (getD (parcelsFrom m (k + 2) (following (parcelAt m k))) 1 0) (getD (parcelsFrom m (k + 2) (following (parcelAt m k))) 2 0) (getD (parcelsFrom m (k + 2) (following (parcelAt m k))) 3 0)
+          ≡ decodeWide false (cond (ltb (parcelAt m k) 0xC000) 2 4) (parcelAt m k) (parcelAt m (k + 2)) (parcelAt m (k + 2 + 2)) (parcelAt m (k + 2 + 2 + 2)) (parcelAt m (k + 2 + 2 + 2 + 2))
+      called = rw (le-ltb (parcelAt m k) 0x8000 high) (wide-cut m (parcelAt m k) (k + 2) (ltb (parcelAt m k) 0xC000) refl)

@@ -1,0 +1,132 @@
+-- A calm turn whose instruction was performed goes, in either kind of run.
+-- Assumes nothing.
+use Prim.Native.Nat.{ℕ, zero, suc}
+use mathlib.Core.Path.{_≡_, refl, sym, ap, _∙_}
+use mathlib.Core.Bool.{Bool, true, false, not, _||_}
+use mathlib.Core.List.{List, [], _∷_}
+use lib.ListN.{getD, set}
+use borrow.Author.Tests.{ne-eqb}
+use Rattle.bits.specs.Bits.{bitOf}
+use Rattle.memory.specs.Bytes.{Memory}
+use Rattle.program.specs.Access.{Gave, gave}
+use Rattle.program.specs.Program.{ret, interpret, plain, after}
+use Rattle.program.proofs.Interpret.{interpret-after}
+use Rattle.machine.specs.Registers.{Bank, word, config, psw, sp, msp, nmiTaken, stackHeld}
+use Rattle.machine.specs.Cache.{Cache}
+use Rattle.machine.specs.Status.{Cpu, cpu, isUser}
+use Rattle.access.specs.Parts.{Out, ok, _>>=_, done}
+use Rattle.exec.specs.Execute.{normal, execute, Traced, always, atJumps, never, traced}
+use Rattle.step.specs.Events.{Due, none, dueOf, dueCode, looked}
+use Rattle.step.specs.Timers.{counted}
+use Rattle.step.specs.Step.{meets, Acted, finished, fetchInstruction, act, attempt, tracesAt, traceFalls, Stepped, stepped, finish, instructionStep, stepFor, step, timed, holdsStack}
+use Rattle.run.specs.Run.{board, goes, unlessLost, afterStep, turn, Tried, tried, tryActed, confinedAttempt, tryTurn, confinedFor, confinedTurn, turnOf}
+use Rattle.bank.specs.Dues.{dueFrom}
+use Rattle.bank.proofs.Laws.{due-known}
+use Rattle.quick.specs.Quick.{gives}
+use Rattle.quick.specs.Performed.{Performed, Calm}
+use Rattle.quick.proofs.GiveLaws.{gives-then, gives-done, not-both}
+
+-- ---- the look
+
+or-left : (a b : Bool) → (a || b) ≡ false → a ≡ false
+or-left false b h = refl
+or-left true b h = h
+
+or-right : (a b : Bool) → (a || b) ≡ false → b ≡ false
+or-right false b h = h
+or-right true b h = not-both (sym h)
+
+pub calm-so : (level : ℕ) (b : Bank) → (level ≡ 0 → ⊥) → word b nmiTaken ≡ 0 → (u v : Bool) → u ≡ bitOf (word b psw) 7 → v ≡ bitOf (word b psw) 8 → (u || v) ≡ false
+    → (t : Bool) → t ≡ stackHeld (word b sp) (word b msp) → t ≡ true → (k : ℕ) → k ≡ dueCode (dueOf level b) → k ≡ 0 → Calm level b
+calm-so level b h g u v eu ev i t et j k ek l =
+    record { asked = h; unmarked = g; idle = sym ek ∙ l; untraced = sym eu ∙ or-left u v i; unjumped = sym ev ∙ or-right u v i; held = sym et ∙ j }
+
+-- a word put where it stands
+set-same : (l : List ℕ) (k v : ℕ) → getD l k 0 ≡ v → set l k v ≡ l
+set-same [] k v e = refl
+set-same (x ∷ l) zero v e = ap (λ (y : ℕ). y ∷ l) (sym e)
+set-same (x ∷ l) (suc k) v e = ap (λ (r : List ℕ). x ∷ r) (set-same l k v e)
+
+module _ (level : ℕ) (b : Bank) (q : Cache) (calm : Calm level b) where
+  looked-same : looked level (cpu b q) ≡ cpu b q
+  looked-same = rw (ne-eqb level 0 (calm .asked)) (ap (λ (d : Bank). cpu d q) (set-same b nmiTaken 0 (calm .unmarked)))
+
+  nothing-due : dueOf level b ≡ none
+  nothing-due = sym (due-known level b) ∙ ap dueFrom (calm .idle)
+
+-- ---- the instruction
+
+untraced : (p : ℕ) (t : Traced) → bitOf p 7 ≡ false → bitOf p 8 ≡ false → tracesAt p t ≡ false
+untraced p always h k = h
+untraced p atJumps h k = rw (h, k) refl
+untraced p never h k = refl
+
+module _ (c d : Cpu) (m n : Memory) (w : Performed c m d n) where
+  abbrev kind : Traced
+  kind = traced (normal (w .instruction))
+
+  acted : gives (act c (meets (w .instruction))) m (finished kind d) n
+  unfolding act
+  acted = gives-then (execute c (w .instruction)) (λ e. done (finished kind e)) m n n d (finished kind d) (w .went .executed) (gives-done (done (finished kind d)) (finished kind d) refl n)
+
+  attempted : gives (attempt c) m (finished kind d) n
+  unfolding attempt
+  attempted = gives-then (fetchInstruction c) (λ i. act c i) m m n (meets (w .instruction)) (finished kind d) (w .fetched) acted
+
+  tried-so : gives (tryActed c (meets (w .instruction))) m (tried (finished kind d)) n
+  unfolding tryActed
+  tried-so =
+      rw (w .went .free)
+      (gives-then (execute c (w .instruction)) (λ e. ret (ok (tried (finished kind e)))) m n n d (tried (finished kind d)) (w .went .executed) (gives-done (done (tried (finished kind d))) (tried (finished kind d)) refl n))
+
+  confined-so : gives (confinedAttempt c) m (tried (finished kind d)) n
+  unfolding confinedAttempt
+  confined-so = gives-then (fetchInstruction c) (λ i. tryActed c i) m m n (meets (w .instruction)) (tried (finished kind d)) (w .fetched) tried-so
+
+-- ---- the turn: e is the bank after the instruction, f with the timers too
+
+module _ (level : ℕ) (b e f : Bank) (q s : Cache) (m n : Memory) (calm : Calm level b) (w : Performed (cpu b q) m (cpu e s) n) (k : Bool) (ek : k ≡ isUser b) (tick : (p : Cache) → cpu f p ≡ counted (word b config) (not k) true (cpu e p)) where
+  abbrev c : Cpu
+  c = cpu b q
+
+  abbrev d : Cpu
+  d = cpu e s
+
+  no-trace : traceFalls (tracesAt (word b psw) (kind c d m n w)) d ≡ d
+  no-trace = rw (untraced (word b psw) (kind c d m n w) (calm .untraced) (calm .unjumped)) refl
+
+  ticked-so : timed c (stepped d true) ≡ cpu f s
+  ticked-so = sym (tick s ∙ ap (λ (u : Bool). counted (word b config) (not u) true d) ek)
+
+  stack-held : holdsStack d ≡ true
+  stack-held = w .went .held (calm .held)
+
+  stepped-so : interpret plain (step level c) m ≡ gave (stepped d true) n
+  unfolding step instructionStep finish interpret
+  stepped-so =
+      ap (λ (z : Cpu). interpret plain (stepFor (dueOf level (z .bank)) z) m) (looked-same level b q calm)
+      ∙ ap (λ (z : Due). interpret plain (stepFor z c) m) (nothing-due level b q calm)
+      ∙ interpret-after plain (attempt c) (finish (word b psw)) m
+      ∙ ap (λ (g : Gave Memory (Out Acted)). interpret plain (finish (word b psw) (g .out)) (g .world)) (attempted c d m n w)
+      ∙ ap (λ (z : Cpu). gave (stepped z true) n) no-trace
+
+  turn-goes : turn level (board c m) ≡ goes (board (cpu f s) n)
+  unfolding turn
+  turn-goes =
+      ap (λ (g : Gave Memory Stepped). afterStep (board c m) g) stepped-so
+      ∙ ap (λ (h : Bool). unlessLost h (board c m) (goes (board (timed c (stepped d true)) n))) stack-held
+      ∙ ap (λ (z : Cpu). goes (board z n)) ticked-so
+
+  confined-goes : confinedTurn level (board c m) ≡ goes (board (cpu f s) n)
+  unfolding confinedTurn
+  confined-goes =
+      ap (λ (z : Cpu). confinedFor (dueOf level (z .bank)) (board c m) z) (looked-same level b q calm)
+      ∙ ap (λ (z : Due). confinedFor z (board c m) c) (nothing-due level b q calm)
+      ∙ ap (λ (g : Gave Memory (Out Tried)). tryTurn (board c m) c g) (confined-so c d m n w)
+      ∙ ap (λ (h : Bool). unlessLost h (board c m) (goes (board (timed c (stepped (traceFalls (tracesAt (word b psw) (kind c d m n w)) d) true)) n))) stack-held
+      ∙ ap (λ (z : Cpu). goes (board (timed c (stepped z true)) n)) no-trace
+      ∙ ap (λ (z : Cpu). goes (board z n)) ticked-so
+
+  pub quickly-goes : (confined : Bool) → turnOf confined level (board c m) ≡ goes (board (cpu f s) n)
+  quickly-goes true = confined-goes
+  quickly-goes false = turn-goes

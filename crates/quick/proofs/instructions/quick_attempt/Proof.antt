@@ -1,0 +1,55 @@
+use Rattle.quick.proofs.InstructionLaws.{performed}
+use Rattle.quick.proofs.GiveLaws.{not-both}
+use mathlib.Core.Path.{refl, sym, _∙_}
+use borrow.Author.Needs.{needs}
+use Rattle.quick.proofs.instructions.quick_attempt.Statement.{statement}
+use Rattle.quick.proofs.instructions.quick_attempt.Tie as tie
+
+element-copy-out-pc : tie.Need-element-copy-out-pc
+element-copy-out-pc c = search needs
+
+text-place-requires : tie.Need-text-place-requires
+text-place-requires c κs = search needs
+
+same-length : tie.Need-same-length
+same-length c = search needs
+
+returns : tie.Need-returns
+returns c = (λ h. not-both h, λ h. (refl, refl, refl))
+
+is-prefixed-requires : tie.Need-is-prefixed-requires
+is-prefixed-requires c κs = c .before .before .text-place .ensures (c .before .if1 .left) .4
+
+same-length-2 : tie.Need-same-length-2
+same-length-2 c = search needs
+
+returns-2 : tie.Need-returns-2
+returns-2 c = (λ h. not-both h, λ h. (refl, refl, refl))
+
+decode-at-requires : tie.Need-decode-at-requires
+decode-at-requires c κs = (c .before .before .before .before .before .text-place .ensures (c .before .before .before .before .if1 .left) .4, sym (c .before .before .is-prefixed .ensures) ∙ c .before .if2 .left)
+
+quick-answer-requires : tie.Need-quick-answer-requires
+quick-answer-requires c κs = search needs
+
+same-length-3 : tie.Need-same-length-3
+same-length-3 c = search needs
+
+returns-3 : tie.Need-returns-3
+returns-3 c = (λ h. performed (c .before .before .before .before .before .before .before .before .before .before .before .before .before .before .before .before .before .args .r .now) _ (c .before .before .before .before .before .before .before .before .before .before .before .before .before .before .before .before .before .args .q .now) _ (c .before .before .before .before .before .before .before .before .before .before .before .before .before .before .before .before .before .args .m .now) _ _ (c .before .before .before .before .before .before .before .before .before .before .before .before .text-place .result) refl (c .before .before .before .before .before .before .before .before .before .before .before .before .text-place .ensures (c .before .before .before .before .before .before .before .before .before .before .before .if1 .left)) (c .before .before .before .before .before .before .before .before .before .is-prefixed .result) (c .before .before .before .before .before .before .before .before .before .is-prefixed .ensures) (c .before .before .before .before .before .before .before .before .if2 .left) (c .before .before .before .before .before .before .decode-at .result) (c .before .before .before .before .before .before .decode-at .ensures) (c .before .before .quick-answer .ensures .0 h), λ h. c .before .before .quick-answer .ensures .1 h)
+
+pub quick-attempt-spec : {M : Type 1} → statement M
+quick-attempt-spec =
+    tie.close
+    (tie.spec
+    element-copy-out-pc
+    text-place-requires
+    same-length
+    returns
+    is-prefixed-requires
+    same-length-2
+    returns-2
+    decode-at-requires
+    quick-answer-requires
+    same-length-3
+    returns-3)

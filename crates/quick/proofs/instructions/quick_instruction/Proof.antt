@@ -1,0 +1,55 @@
+use Rattle.quick.proofs.InstructionLaws.{two-went, one-went}
+use Rattle.quick.proofs.GiveLaws.{not-both}
+use mathlib.Core.Path.{refl}
+use borrow.Author.Needs.{needs}
+use Rattle.quick.proofs.instructions.quick_instruction.Statement.{statement}
+use Rattle.quick.proofs.instructions.quick_instruction.Tie as tie
+
+length-of-requires : tie.Need-length-of-requires
+length-of-requires c κs = search needs
+
+plan-of-requires : tie.Need-plan-of-requires
+plan-of-requires c κs = search needs
+
+enum-known-plan : tie.Need-enum-known-plan
+enum-known-plan c = search needs
+
+quick-two-requires : tie.Need-quick-two-requires
+quick-two-requires c κs = search needs
+
+enum-known-plan-2 : tie.Need-enum-known-plan-2
+enum-known-plan-2 c = search needs
+
+quick-one-requires : tie.Need-quick-one-requires
+quick-one-requires c κs = search needs
+
+enum-told : tie.Need-enum-told
+enum-told c = search needs
+
+same-length : tie.Need-same-length
+same-length c = search needs
+
+returns : tie.Need-returns
+returns c = (λ h. two-went (c .before .before .before .before .before .before .before .before .before .before .before .before .args .r .now) _ (c .before .before .before .before .before .before .before .before .before .before .before .before .args .q .now) _ (c .before .before .before .before .before .before .before .before .before .before .before .before .args .m .now) _ (c .before .before .before .before .before .before .before .before .before .before .before .before .args .i) (c .before .before .before .before .before .before .before .before .before .before .length-of .result) (c .before .before .before .before .before .before .before .before .before .before .length-of .ensures) (c .before .before .before .before .before .before .before .before .before .plan-of .result) (c .before .before .before .before .before .before .before .before .before .plan-of .ensures) _ _ _ _ _ _ (c .before .before .before .before .before .before .before .plan .given .1) (c .before .before .quick-two .ensures .0 h), λ h. c .before .before .quick-two .ensures .1 h)
+
+returns-2 : tie.Need-returns-2
+returns-2 c = (λ h. one-went (c .before .before .before .before .before .before .before .before .before .args .r .now) _ (c .before .before .before .before .before .before .before .before .before .args .q .now) _ (c .before .before .before .before .before .before .before .before .before .args .m .now) _ (c .before .before .before .before .before .before .before .before .before .args .i) (c .before .before .before .before .before .before .before .length-of .result) (c .before .before .before .before .before .before .before .length-of .ensures) (c .before .before .before .before .before .before .plan-of .result) (c .before .before .before .before .before .before .plan-of .ensures) _ _ _ (c .before .before .before .before .plan2 .given .1) refl (c .quick-one .ensures .0 h), λ h. (refl, c .quick-one .ensures .1 h .0, c .quick-one .ensures .1 h .1))
+
+returns-3 : tie.Need-returns-3
+returns-3 c = (λ h. not-both h, λ h. (refl, refl, refl))
+
+pub quick-instruction-spec : {M : Type 1} → statement M
+quick-instruction-spec =
+    tie.close
+    (tie.spec
+    length-of-requires
+    plan-of-requires
+    enum-known-plan
+    quick-two-requires
+    enum-known-plan-2
+    quick-one-requires
+    enum-told
+    same-length
+    returns
+    returns-2
+    returns-3)

@@ -1,0 +1,3 @@
+pub mod Performed
+pub mod Plans
+pub mod Quick

@@ -1,0 +1,59 @@
+-- A text in memory, and an instruction performed where no access to memory faults or sets a bit.
+-- Assumes nothing.
+use Prim.Native.Nat.{ℕ, zero, suc, _+_, _%_, _^_}
+use mathlib.Core.Path.{_≡_}
+use mathlib.Core.Bool.{true, false}
+use mathlib.Core.List.{List, [], _∷_}
+use Rattle.isa.specs.declared.Answer.{Answer}
+use Rattle.isa.specs.declared.Answer.the-variants.{Is}
+use Rattle.isa.specs.declared.Instruction.{Instruction}
+use Rattle.isa.specs.declared.Text.{Text}
+use Rattle.isa.specs.Decode.{textOf}
+use Rattle.memory.specs.Bytes.{Memory, number}
+use Rattle.bits.specs.Bits.{bitOf}
+use Rattle.machine.specs.Registers.{Bank, word, psw, sp, msp, nmiTaken, stackHeld}
+use Rattle.machine.specs.Status.{Cpu}
+use Rattle.access.specs.Text.{following}
+use Rattle.exec.specs.Execute.{normal, execute}
+use Rattle.step.specs.Events.{dueOf, dueCode}
+use Rattle.step.specs.Step.{meets, fetchInstruction, holdsStack}
+use Rattle.run.specs.Run.{isKcall}
+use Rattle.quick.specs.Quick.{gives}
+
+abbrev pub parcelAt : Memory → ℕ → ℕ
+parcelAt m k = number 2 m k % 2 ^ 16
+
+abbrev pub parcelsFrom : Memory → ℕ → ℕ → List ℕ
+parcelsFrom m k zero = []
+parcelsFrom m k (suc n) = parcelAt m k ∷ parcelsFrom m (k + 2) n
+
+-- the text of an instruction without a prefix
+abbrev pub textAt : Memory → ℕ → Text
+textAt m k = textOf (parcelAt m k ∷ parcelsFrom m (k + 2) (following (parcelAt m k)))
+
+-- what an instruction did: it is no KCALL, and it keeps the stack
+pub record Went (i : Instruction) (c : Cpu) (m : Memory) (d : Cpu) (n : Memory) : Type 0 where
+  pub executed : gives (execute c i) m d n
+  pub free : isKcall (normal i) ≡ false
+  pub held : holdsStack c ≡ true → holdsStack d ≡ true
+
+-- what the decoder answered, performed
+pub record Answered (a : Answer) (c : Cpu) (m : Memory) (d : Cpu) (n : Memory) : Type 0 where
+  pub instruction : Instruction
+  pub is : a ≡ Is instruction
+  pub went : Went instruction c m d n
+
+-- the instruction at PC
+pub record Performed (c : Cpu) (m : Memory) (d : Cpu) (n : Memory) : Type 0 where
+  pub instruction : Instruction
+  pub fetched : gives (fetchInstruction c) m (meets instruction) m
+  pub went : Went instruction c m d n
+
+-- a look at the interrupt input changes nothing and finds nothing due, no instruction is traced, and the stack is held
+pub record Calm (level : ℕ) (b : Bank) : Type 0 where
+  pub asked : level ≡ 0 → ⊥
+  pub unmarked : word b nmiTaken ≡ 0
+  pub idle : dueCode (dueOf level b) ≡ 0
+  pub untraced : bitOf (word b psw) 7 ≡ false
+  pub unjumped : bitOf (word b psw) 8 ≡ false
+  pub held : stackHeld (word b sp) (word b msp) ≡ true
