@@ -1,30 +1,46 @@
 -- Jumps, and the calls and returns whose words the stack cache holds.
 -- Assumes nothing.
-use Prim.Native.Nat.{ℕ, _%_, _^_, _<_}
+use Prim.Native.Nat.{ℕ, _*_, _/_, _%_, _^_, _<_, _≤_}
 use mathlib.Core.Path.{_≡_, refl, sym, ap, _∙_}
-use mathlib.Core.Bool.{Bool, true, false, not, _&&_}
+use mathlib.Core.Bool.{Bool, true, false, not, _&&_, and-false}
 use mathlib.Core.List.{[]}
 use native.Mathlib.Omega.{arith}
-use lib.Dec.{leb, ltb}
+use lib.Dec.{eqb, leb, ltb}
+use lib.ListN.{set}
+use borrow.Author.Tests.{eq-eqb, le-ltb}
 use Rattle.bits.specs.Bits.{bitOf}
 use Rattle.laws.proofs.Cases.{and-left, and-right}
-use Rattle.word.specs.Sums.{plusOf}
+use Rattle.word.specs.declared.Width.the-variants.{Word}
+use Rattle.word.specs.Sums.{plusOf, minusOf}
 use Rattle.isa.specs.declared.MonadicMode.{MonadicMode}
+use Rattle.isa.specs.Legal.{isStack}
+use Rattle.memory.specs.Answers.{Answer, answerOf}
+use Rattle.memory.specs.Bytes.{Memory}
+use Rattle.memory.proofs.AnswerLaws.{answer-got}
+use Rattle.program.specs.Access.{probe, Gave, gave}
+use Rattle.program.specs.Journal.{Journaled, logging}
+use Rattle.handler.specs.Followed.{onlyMemory}
+use Rattle.access.specs.Moves.{flush, fill}
 use Rattle.isa.specs.declared.MonadicMode.the-variants.{WordAbsolute, WordStack, WordIndirect, WordImmediate, FlowAbsoluteIndirect, FlowStackIndirect, FlowRelative, FlowAbsolute}
-use Rattle.program.specs.Program.{Program, after}
-use Rattle.machine.specs.Registers.{Bank, word, pc, psw, sp, msp, config, stackHeld}
-use Rattle.machine.specs.Cache.{Cache, cacheRead, cacheWrite}
-use Rattle.machine.specs.Status.{Cpu, cpu, csp, spCurrent, cacheOn, cached}
-use Rattle.access.specs.Parts.{Out, onward, _>>=_, done}
+use Rattle.program.specs.Program.{Program, interpret, after}
+use Rattle.machine.specs.Registers.{Bank, word, pc, psw, sp, msp, shad, config, stackHeld}
+use Rattle.machine.proofs.BankLaws.{word-set-other}
+use Rattle.machine.specs.Cache.{Cache, cacheWrite}
+use Rattle.machine.specs.Status.{Cpu, cpu, with, csp, spCurrent, cacheOn, cached, regime}
+use Rattle.access.specs.Parts.{Out, onward, _>>=_, done, replied, request}
+use Rattle.access.specs.Data.{readData, checkStore}
 use Rattle.exec.specs.declared.Monadic.{Monadic}
+use Rattle.exec.specs.Operands.{stackAddress}
 use Rattle.exec.specs.declared.Monadic.the-variants as monadic
-use Rattle.exec.specs.Control.{jumped, nextPc, advanced, readWord32, jump, jumpIf, call, return, released}
+use Rattle.exec.specs.Control.{jumped, nextPc, advanced, withCsp, withGuard, readWord32, jump, jumpIf, call, return, released}
+use Rattle.exec.specs.Stack.{stackTarget, checkMsp, clipped, enterOffset, enterAt, enter, catchTo, catchCurrent, catch}
 use Rattle.exec.specs.Execute.{oneOperand, executeMonadic}
 use Rattle.step.specs.Step.{holdsStack}
 use Rattle.run.specs.Run.{isKcall}
 use Rattle.bounds.proofs.Held.{holds-with}
-use Rattle.quick.specs.Quick.{isRelative}
-use Rattle.quick.proofs.NearLaws.{Near, word-read, word-written}
+use Rattle.quick.specs.Quick.{gives, isRelative}
+use Rattle.quick.proofs.GiveLaws.{gives-then, gives-done, set-same}
+use Rattle.quick.proofs.NearLaws.{word-written}
 
 relative-is : (m : MonadicMode) → isRelative m ≡ true → m ≡ FlowRelative
 relative-is WordAbsolute h = cc
@@ -76,44 +92,129 @@ module _ (b d : Bank) (q s : Cache) (m : MonadicMode) (v n : ℕ) where
 
 -- e is the bank after the stack is released
 module _ (b e d : Bank) (v : ℕ) (rel : Made b e (λ c. released c v)) (t : Bool) (et : t ≡ stackHeld (word d sp) (word d msp)) (held : t ≡ true) where
-  pub return-done : (q : Cache) (a : ℕ) → Near b v a → a < 2 ^ 32 → (c : ℕ) → c ≡ a % 2 ^ 32 → (x : ℕ) → x ≡ cacheRead 4 q c → Made e d (λ c. jumped c x)
-      → (return (cpu b q) v ≡ done (cpu d q)) × (holdsStack (cpu d q) ≡ true)
-  unfolding return _>>=_ after onward
-  return-done q a k l c ec x ex jum =
-      let i : a % 2 ^ 32 ≡ a = omega arith in
-      let at : cacheRead 4 q a ≡ x = ap (cacheRead 4 q) (sym (ec ∙ i)) ∙ sym ex in
-      (rw (← k .0, word-read b q a (k .1) (k .2), at, ← rel q) (ap (λ (c : Cpu). done c) (sym (jum q))), sym et ∙ held)
+  pub return-done : (q : Cache) (m : Memory) (a : ℕ) → a ≡ stackAddress (cpu b []) v → (x : ℕ) → gives (readData (cpu b q) Word a) m x m → x < 2 ^ 32 → (y : ℕ) → y ≡ x % 2 ^ 32 → Made e d (λ c. jumped c y)
+      → gives (return (cpu b q) v) m (cpu d q) m × (holdsStack (cpu d q) ≡ true)
+  unfolding return
+  return-done q m a ea x g l y ey jum =
+      let i : x % 2 ^ 32 ≡ x = omega arith in (
+        gives-then (readData (cpu b q) Word (stackAddress (cpu b q) v)) _ m m m x (cpu d q) (rw (← ea) g)
+            (gives-done (done (jumped (released (cpu b q) v) x)) (cpu d q) (ap (λ (c : Cpu). done c) (ap (λ (c : Cpu). jumped c x) (sym (rel q)) ∙ ap (λ (n : ℕ). jumped (cpu e q) n) (sym (ey ∙ i)) ∙ sym (jum q))) m),
+        sym et ∙ held,
+      )
 
   pub pop-done : (n : ℕ) → Made e d (λ c. advanced c n) → ((q : Cache) → cpu d q ≡ advanced (released (cpu b q) v) n) × ((q : Cache) → holdsStack (cpu d q) ≡ true)
   pop-done n adv = ((λ q. adv q ∙ ap (λ (c : Cpu). advanced c n) (rel q)), (λ q. sym et ∙ held))
 
+-- ---- ENTER and CATCH that move nothing
+
+offset-is : (m : MonadicMode) → isStack m ≡ true → m ≡ WordStack
+offset-is WordAbsolute h = cc
+offset-is WordStack h = refl
+offset-is WordIndirect h = cc
+offset-is WordImmediate h = cc
+offset-is FlowAbsoluteIndirect h = cc
+offset-is FlowStackIndirect h = cc
+offset-is FlowRelative h = cc
+offset-is FlowAbsolute h = cc
+
+on-current : (b : Bank) → cacheOn b ≡ true → spCurrent b ≡ true
+on-current b h = and-right (bitOf (word b config) 18) (spCurrent b) h
+
+same-number : (n : ℕ) → eqb n n ≡ true
+same-number n = eq-eqb n n refl
+
+module _ (b : Bank) (m : MonadicMode) (v n : ℕ) (f : Bool) (ef : f ≡ isStack m) (hf : f ≡ true) (g : Bool) (eg : g ≡ cacheOn b) (hg : g ≡ true) where
+  on : cacheOn b ≡ true
+  on = sym eg ∙ hg
+
+  pub catch-goes : (d : Bank) (a : ℕ) → a ≡ stackAddress (cpu b []) v → a ≤ word b msp → Made b d (λ c. advanced c n) → Goes (λ q. catch (cpu b q) m v n) b d
+  unfolding catch catchCurrent stackTarget catchTo fill checkMsp _>>=_ after onward
+  catch-goes d a ea h e =
+      ((λ q. rw (offset-is m (sym ef ∙ hf), on, ← ea, on-current b on, le-ltb (word b msp) a h, same-number (word b msp)) (ap (λ (c : Cpu). done c) (sym (e q)))), (λ q. ap holdsStack (e q) ∙ holds-with (cpu b q) pc _ refl refl))
+
+  module _ (t : ℕ) (et : t ≡ stackAddress (cpu b []) v / 16 * 16) (l : ℕ) (el : l ≡ minusOf (word b msp) t) (small : l ≤ 256) (k : Memory) (y : ℕ) (ey : gave (answerOf y) (onlyMemory k) ≡ logging (probe (regime b) t) (onlyMemory k)) (hy : y < 2 ^ 32) where
+    checked : (q : Cache) → gives (checkStore (cpu b q) t) k y k
+    unfolding checkStore request interpret logging
+    checked q =
+        ap (λ (z : Gave Journaled Answer). gave (replied (cpu b q) t (z .out)) (z .world .memory)) (sym ey) ∙ rw (answer-got y hy) refl
+
+    unmoved : (q : Cache) → flush false t 16 (cpu b q) ≡ done (cpu b q)
+    unfolding flush
+    unmoved q = rw (le-ltb 256 (minusOf (word b msp) t) (rw (← el) small), and-false (not (eqb (word b msp) (word b sp)))) refl
+
+    unclipped : clipped (word b msp) (word b msp) t ≡ word b msp
+    unclipped = rw (le-ltb 256 (minusOf (word b msp) t) (rw (← el) small)) refl
+
+    unchecked : (q : Cache) → checkMsp (cpu b q) (regime b) (word b msp) (clipped (word b msp) (word b msp) t) ≡ done 0
+    unfolding checkMsp
+    unchecked q = rw (unclipped, same-number (word b msp)) refl
+
+    -- MSP put where it stands
+    pointed : (q : Cache) → with (withCsp (cpu b q) t) msp (clipped (word b msp) (word b msp) t) ≡ withCsp (cpu b q) t
+    pointed q =
+        rw (unclipped, on-current b on)
+        (ap (λ (z : Bank). cpu z q) (set-same (set (set b sp t) shad t) msp (word b msp) (word-set-other (set b sp t) shad t msp refl ∙ word-set-other b sp t msp refl)))
+
+    module _ (e : Bank) (ce : Made b e (λ c. withCsp c t)) where
+      entered : (q : Cache) → gives (enterOffset (cpu b q) t) k (cpu e q) k
+      unfolding enterOffset
+      entered q =
+          gives-then (flush false t 16 (cpu b q)) _ k k k (cpu b q) (cpu e q) (gives-done (flush false t 16 (cpu b q)) (cpu b q) (unmoved q) k)
+          (gives-then (checkStore (cpu b q) t) _ k k k y (cpu e q) (checked q)
+          (gives-then (checkMsp (cpu b q) (regime b) (word b msp) (clipped (word b msp) (word b msp) t)) _ k k k 0 (cpu e q) (gives-done (checkMsp (cpu b q) (regime b) (word b msp) (clipped (word b msp) (word b msp) t)) 0 (unchecked q) k)
+          (gives-done (done (with (withCsp (cpu b q) t) msp (clipped (word b msp) (word b msp) t))) (cpu e q) (ap (λ (c : Cpu). done c) (pointed q ∙ sym (ce q))) k)))
+
+      at-target : (q : Cache) → gives (enterAt (cpu b q) WordStack t) k (cpu e q) k
+      unfolding enterAt
+      at-target q = rw (on, on-current b on) (entered q)
+
+      pub enter-gives : (u d : Bank) → Made e u (λ c. withGuard c true) → Made u d (λ c. advanced c n) → (z : Bool) → z ≡ stackHeld (word d sp) (word d msp) → z ≡ true
+          → ((q : Cache) → gives (enter (cpu b q) m v n) k (cpu d q) k) × ((q : Cache) → holdsStack (cpu d q) ≡ true)
+      unfolding enter stackTarget
+      enter-gives u d gu ad z ez hz = (
+        (λ q. rw (offset-is m (sym ef ∙ hf))
+            (gives-then (stackTarget (cpu b q) WordStack v) _ k k k (stackAddress (cpu b q) v) (cpu d q) (gives-done (stackTarget (cpu b q) WordStack v) (stackAddress (cpu b q) v) refl k)
+            (gives-then (enterAt (cpu b q) WordStack (stackAddress (cpu b q) v / 16 * 16)) _ k k k (cpu e q) (cpu d q) (rw (← et) (at-target q))
+            (gives-done (done (advanced (withGuard (cpu e q) true) n)) (cpu d q) (ap (λ (c : Cpu). done c) (ap (λ (c : Cpu). advanced c n) (sym (gu q)) ∙ sym (ad q))) k)))),
+        (λ q. sym ez ∙ hz),
+      )
+
 -- ---- by the instruction
 
-abbrev pub Done : Bank → Cache → Bank → Cache → Monadic → MonadicMode → ℕ → ℕ → Type 0
-Done b q d s o m v n =
-    (executeMonadic (cpu b q) o m v n ≡ done (cpu d s)) × (isKcall (oneOperand o m v) ≡ false) × (holdsStack (cpu b q) ≡ true → holdsStack (cpu d s) ≡ true)
+-- k is the memory
+abbrev pub Done : Memory → Bank → Cache → Bank → Cache → Monadic → MonadicMode → ℕ → ℕ → Type 0
+Done k b q d s o m v n =
+    gives (executeMonadic (cpu b q) o m v n) k (cpu d s) k × (isKcall (oneOperand o m v) ≡ false) × (holdsStack (cpu b q) ≡ true → holdsStack (cpu d s) ≡ true)
 
-module _ (b d : Bank) (q s : Cache) (o : Monadic) (m : MonadicMode) (v n : ℕ) where
-  pub calls : o ≡ monadic.Call → (call (cpu b q) m v n ≡ done (cpu d s)) × (holdsStack (cpu d s) ≡ holdsStack (cpu b q)) → Done b q d s o m v n
+module _ (k : Memory) (b d : Bank) (q s : Cache) (o : Monadic) (m : MonadicMode) (v n : ℕ) where
+  pub calls : o ≡ monadic.Call → (call (cpu b q) m v n ≡ done (cpu d s)) × (holdsStack (cpu d s) ≡ holdsStack (cpu b q)) → Done k b q d s o m v n
   unfolding executeMonadic
-  calls e g = rw e (g .0, refl, (λ h. g .1 ∙ h))
+  calls e g = rw e (gives-done (call (cpu b q) m v n) (cpu d s) (g .0) k, refl, (λ h. g .1 ∙ h))
 
-  pub returns-near : o ≡ monadic.Return → q ≡ s → (return (cpu b q) v ≡ done (cpu d q)) × (holdsStack (cpu d q) ≡ true) → Done b q d s o m v n
+  pub returns-quiet : o ≡ monadic.Return → q ≡ s → gives (return (cpu b q) v) k (cpu d q) k × (holdsStack (cpu d q) ≡ true) → Done k b q d s o m v n
   unfolding executeMonadic
-  returns-near e f g = rw (e, ← f) (g .0, refl, (λ h. g .1))
+  returns-quiet e f g = rw (e, ← f) (g .0, refl, (λ h. g .1))
 
-  pub jumps : o ≡ monadic.Jmp → q ≡ s → Goes (λ p. jump (cpu b p) m v) b d → Done b q d s o m v n
+  pub jumps : o ≡ monadic.Jmp → q ≡ s → Goes (λ p. jump (cpu b p) m v) b d → Done k b q d s o m v n
   unfolding executeMonadic
-  jumps e f g = rw (e, ← f) (g .0 q, refl, (λ h. g .1 q ∙ h))
+  jumps e f g = rw (e, ← f) (gives-done (jump (cpu b q) m v) (cpu d q) (g .0 q) k, refl, (λ h. g .1 q ∙ h))
 
-  pub jumps-true : o ≡ monadic.JmpTrue → q ≡ s → (t : Bool) → t ≡ bitOf (word b psw) 4 → Goes (λ p. jumpIf t (cpu b p) m v n) b d → Done b q d s o m v n
+  pub jumps-true : o ≡ monadic.JmpTrue → q ≡ s → (t : Bool) → t ≡ bitOf (word b psw) 4 → Goes (λ p. jumpIf t (cpu b p) m v n) b d → Done k b q d s o m v n
   unfolding executeMonadic
-  jumps-true e f t et g = rw (e, ← f) (rw (← et) (g .0 q), refl, (λ h. g .1 q ∙ h))
+  jumps-true e f t et g = rw (e, ← f) (rw (← et) (gives-done (jumpIf t (cpu b q) m v n) (cpu d q) (g .0 q) k), refl, (λ h. g .1 q ∙ h))
 
-  pub jumps-false : o ≡ monadic.JmpFalse → q ≡ s → (t : Bool) → t ≡ bitOf (word b psw) 4 → Goes (λ p. jumpIf (not t) (cpu b p) m v n) b d → Done b q d s o m v n
+  pub jumps-false : o ≡ monadic.JmpFalse → q ≡ s → (t : Bool) → t ≡ bitOf (word b psw) 4 → Goes (λ p. jumpIf (not t) (cpu b p) m v n) b d → Done k b q d s o m v n
   unfolding executeMonadic
-  jumps-false e f t et g = rw (e, ← f) (rw (← et) (g .0 q), refl, (λ h. g .1 q ∙ h))
+  jumps-false e f t et g = rw (e, ← f) (rw (← et) (gives-done (jumpIf (not t) (cpu b q) m v n) (cpu d q) (g .0 q) k), refl, (λ h. g .1 q ∙ h))
 
-  pub pops : o ≡ monadic.Popn → q ≡ s → ((p : Cache) → cpu d p ≡ advanced (released (cpu b p) v) n) × ((p : Cache) → holdsStack (cpu d p) ≡ true) → Done b q d s o m v n
+  pub pops : o ≡ monadic.Popn → q ≡ s → ((p : Cache) → cpu d p ≡ advanced (released (cpu b p) v) n) × ((p : Cache) → holdsStack (cpu d p) ≡ true) → Done k b q d s o m v n
   unfolding executeMonadic
-  pops e f g = rw (e, ← f) (ap (λ (c : Cpu). done c) (sym (g .0 q)), refl, (λ h. g .1 q))
+  pops e f g = rw (e, ← f) (gives-done (done (advanced (released (cpu b q) v) n)) (cpu d q) (ap (λ (c : Cpu). done c) (sym (g .0 q))) k, refl, (λ h. g .1 q))
+
+  pub catches : o ≡ monadic.Catch → q ≡ s → Goes (λ p. catch (cpu b p) m v n) b d → Done k b q d s o m v n
+  unfolding executeMonadic
+  catches e f g = rw (e, ← f) (gives-done (catch (cpu b q) m v n) (cpu d q) (g .0 q) k, refl, (λ h. g .1 q ∙ h))
+
+  pub enters : o ≡ monadic.Enter → q ≡ s → ((p : Cache) → gives (enter (cpu b p) m v n) k (cpu d p) k) × ((p : Cache) → holdsStack (cpu d p) ≡ true) → Done k b q d s o m v n
+  unfolding executeMonadic
+  enters e f g = rw (e, ← f) (g .0 q, refl, (λ h. g .1 q))

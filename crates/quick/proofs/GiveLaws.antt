@@ -1,9 +1,11 @@
 -- Parts that give a value, one after another.
 -- Assumes nothing.
-use Prim.Native.Nat.{ℕ, _^_, _<_}
+use Prim.Native.Nat.{ℕ, zero, suc, _^_, _<_}
 use mathlib.Core.Path.{_≡_, refl, sym, ap, _∙_}
 use mathlib.Core.Bool.{Bool, true, false, not}
+use mathlib.Core.List.{List, [], _∷_}
 use native.Mathlib.Omega.{arith}
+use lib.ListN.{getD, set}
 use Rattle.memory.specs.Answers.{got, answerOf}
 use Rattle.memory.specs.Bytes.{Memory}
 use Rattle.memory.proofs.AnswerLaws.{answer-got}
@@ -37,3 +39,9 @@ missed true h = sym h
 
 pub not-both : {A : Type 0} → _≡_ {A = Bool} false true → A
 not-both h = let z : _≡_ {A = ℕ} 0 1 = cc in absurd (omega arith)
+
+-- a word put where it stands
+pub set-same : (l : List ℕ) (k v : ℕ) → getD l k 0 ≡ v → set l k v ≡ l
+set-same [] k v e = refl
+set-same (x ∷ l) zero v e = ap (λ (y : ℕ). y ∷ l) (sym e)
+set-same (x ∷ l) (suc k) v e = ap (λ (r : List ℕ). x ∷ r) (set-same l k v e)

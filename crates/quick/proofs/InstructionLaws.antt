@@ -28,7 +28,7 @@ use Rattle.machine.specs.Registers.{Bank, word, pc}
 use Rattle.machine.specs.Cache.{Cache}
 use Rattle.machine.specs.Status.{Cpu, cpu, regime}
 use Rattle.handler.specs.Quiet.{Quiet}
-use Rattle.access.specs.Parts.{ok, _>>=_, done}
+use Rattle.access.specs.Parts.{ok, _>>=_}
 use Rattle.access.specs.Text.{fetchText}
 use Rattle.exec.specs.declared.Monadic.{Monadic}
 use Rattle.exec.specs.declared.Task.{Task}
@@ -43,7 +43,7 @@ use Rattle.quick.specs.declared.instructions.Plan.the-variants.{Two, One
 use Rattle.quick.specs.Plans.{Planned}
 use Rattle.quick.specs.Quick.{gives}
 use Rattle.quick.specs.Performed.{parcelAt, textAt, Went, Answered, Performed}
-use Rattle.quick.proofs.GiveLaws.{gives-then, gives-done}
+use Rattle.quick.proofs.GiveLaws.{gives-then}
 use Rattle.quick.proofs.TextLaws.{text-quiet}
 
 -- ---- plans
@@ -82,11 +82,11 @@ module _ (b e : Bank) (q s : Cache) (m n : Memory) (i : Instruction) (l : ℕ) (
       is : normal i ≡ twoOperands w t (General a x) (General d y)
       is = subst (λ z. Planned z (normal i)) h g
 
-  pub one-went : (o : Monadic) (k : MonadicMode) (v : ℕ) → p ≡ One o k v → n ≡ m → (executeMonadic (cpu b q) o k v l ≡ done (cpu e s)) × (isKcall (oneOperand o k v) ≡ false) × (holdsStack (cpu b q) ≡ true → holdsStack (cpu e s) ≡ true)
+  pub one-went : (o : Monadic) (k : MonadicMode) (v : ℕ) → p ≡ One o k v → n ≡ m → gives (executeMonadic (cpu b q) o k v l) m (cpu e s) m × (isKcall (oneOperand o k v) ≡ false) × (holdsStack (cpu b q) ≡ true → holdsStack (cpu e s) ≡ true)
       → Went i (cpu b q) m (cpu e s) n
   unfolding execute executeNormal
   one-went o k v h f u =
-      record { executed = rw (is, ← el, f) (gives-done (executeMonadic (cpu b q) o k v l) (cpu e s) (u .0) m); free = rw is (u .1); held = u .2 }
+      record { executed = rw (is, ← el, f) (u .0); free = rw is (u .1); held = u .2 }
     where
       is : normal i ≡ oneOperand o k v
       is = subst (λ z. Planned z (normal i)) h g

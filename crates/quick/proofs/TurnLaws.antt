@@ -1,10 +1,8 @@
 -- A calm turn whose instruction was performed goes, in either kind of run.
 -- Assumes nothing.
-use Prim.Native.Nat.{ℕ, zero, suc}
+use Prim.Native.Nat.{ℕ}
 use mathlib.Core.Path.{_≡_, refl, sym, ap, _∙_}
 use mathlib.Core.Bool.{Bool, true, false, not, _||_}
-use mathlib.Core.List.{List, [], _∷_}
-use lib.ListN.{getD, set}
 use borrow.Author.Tests.{ne-eqb}
 use Rattle.bits.specs.Bits.{bitOf}
 use Rattle.memory.specs.Bytes.{Memory}
@@ -24,7 +22,7 @@ use Rattle.bank.specs.Dues.{dueFrom}
 use Rattle.bank.proofs.Laws.{due-known}
 use Rattle.quick.specs.Quick.{gives}
 use Rattle.quick.specs.Performed.{Performed, Calm}
-use Rattle.quick.proofs.GiveLaws.{gives-then, gives-done, not-both}
+use Rattle.quick.proofs.GiveLaws.{gives-then, gives-done, not-both, set-same}
 
 -- ---- the look
 
@@ -40,12 +38,6 @@ pub calm-so : (level : ℕ) (b : Bank) → (level ≡ 0 → ⊥) → word b nmiT
     → (t : Bool) → t ≡ stackHeld (word b sp) (word b msp) → t ≡ true → (k : ℕ) → k ≡ dueCode (dueOf level b) → k ≡ 0 → Calm level b
 calm-so level b h g u v eu ev i t et j k ek l =
     record { asked = h; unmarked = g; idle = sym ek ∙ l; untraced = sym eu ∙ or-left u v i; unjumped = sym ev ∙ or-right u v i; held = sym et ∙ j }
-
--- a word put where it stands
-set-same : (l : List ℕ) (k v : ℕ) → getD l k 0 ≡ v → set l k v ≡ l
-set-same [] k v e = refl
-set-same (x ∷ l) zero v e = ap (λ (y : ℕ). y ∷ l) (sym e)
-set-same (x ∷ l) (suc k) v e = ap (λ (r : List ℕ). x ∷ r) (set-same l k v e)
 
 module _ (level : ℕ) (b : Bank) (q : Cache) (calm : Calm level b) where
   looked-same : looked level (cpu b q) ≡ cpu b q

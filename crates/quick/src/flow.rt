@@ -1,18 +1,23 @@
-// Jumps, and the calls and returns whose words the stack cache holds.
-use crate::near::near_address;
+// Jumps, and calls, returns, ENTER and CATCH that move no word between cache and memory.
+use crate::accesses::quiet_read;
+use access::data::check_store;
 use bank::flow::advanced;
 use bank::flow::jumped;
 use bank::flow::next_pc;
 use bank::flow::released;
+use bank::flow::stack_address;
+use bank::flow::with_csp;
+use bank::status::with_guard;
 use bits::bit;
 use exec::Monadic;
 use isa::MonadicMode;
-use machine::cache::cache_read;
 use machine::cache::cache_write;
 use machine::registers::stack_held;
+use machine::status::cache_on;
 use machine::status::cached;
 use memory::answers::low32;
 use word::Width;
+use word::sums::minus;
 use word::sums::plus;
 ghost use mathlib.Core.Path.{_≡_};
 ghost use mathlib.Core.Bool.{true, false};
@@ -20,10 +25,12 @@ ghost use Rattle.machine.specs.Cache.{Cache};
 ghost use Rattle.machine.specs.Status.{cpu};
 ghost use Rattle.access.specs.Parts.{done};
 ghost use Rattle.exec.specs.Control.{jump as jumpOf, jumpIf, call as callOf, return as returnOf, released as releasedOf, advanced as advancedOf};
+ghost use Rattle.isa.specs.Legal.{isStack};
+ghost use Rattle.exec.specs.Stack.{enter as enterOf, catch as catchOf};
 ghost use Rattle.exec.specs.Execute.{oneOperand, executeMonadic};
 ghost use Rattle.step.specs.Step.{holdsStack};
 ghost use Rattle.run.specs.Run.{isKcall};
-ghost use Rattle.quick.specs.Quick.{isRelative};
+ghost use Rattle.quick.specs.Quick.{gives, isRelative};
 
 fn is_relative(m: MonadicMode) -> bool
     ensures { λ x. ⌜ x ≡ isRelative m ⌝ }
@@ -36,6 +43,21 @@ fn is_relative(m: MonadicMode) -> bool
         MonadicMode::FlowAbsoluteIndirect => false,
         MonadicMode::FlowStackIndirect => false,
         MonadicMode::FlowRelative => true,
+        MonadicMode::FlowAbsolute => false,
+    }
+}
+
+fn is_offset(m: MonadicMode) -> bool
+    ensures { λ x. ⌜ x ≡ isStack m ⌝ }
+{
+    match m {
+        MonadicMode::WordAbsolute => false,
+        MonadicMode::WordStack => true,
+        MonadicMode::WordIndirect => false,
+        MonadicMode::WordImmediate => false,
+        MonadicMode::FlowAbsoluteIndirect => false,
+        MonadicMode::FlowStackIndirect => false,
+        MonadicMode::FlowRelative => false,
         MonadicMode::FlowAbsolute => false,
     }
 }
@@ -82,15 +104,15 @@ fn call(q: &mut [[u32; 4]; 16], r: &mut [u32; 17], mode: MonadicMode, v: u32, n:
 }
 
 // RETURN; one that would lose its stack is left to the step that refuses it.
-fn return_near(q: &[[u32; 4]; 16], r: &mut [u32; 17], v: u32) -> bool
-    ensures { λ z. ⌜ (z ≡ true → (returnOf (cpu (now (r .entry)) (now (q .entry))) v ≡ done (cpu (now (r .exit)) (now (q .entry)))) × (holdsStack (cpu (now (r .exit)) (now (q .entry))) ≡ true)) × (z ≡ false → now (r .exit) ≡ now (r .entry)) ⌝ }
+fn return_quiet(m: &[u8], q: &[[u32; 4]; 16], r: &mut [u32; 17], v: u32) -> bool
+    ensures { λ z. ⌜ (z ≡ true → gives (returnOf (cpu (now (r .entry)) (now (q .entry))) v) (now (m .entry)) (cpu (now (r .exit)) (now (q .entry))) (now (m .entry)) × (holdsStack (cpu (now (r .exit)) (now (q .entry))) ≡ true)) × (z ≡ false → now (r .exit) ≡ now (r .entry)) ⌝ }
 {
     let kept = *r;
-    let a = near_address(r, v);
-    if a < 0x1_0000_0000 {
-        let t = cache_read(Width::Word, q, low32(a));
+    let a = stack_address(r, v);
+    let x = quiet_read(m, q, r, Width::Word, a);
+    if x < 0x1_0000_0000 {
         released(r, v);
-        jumped(r, t);
+        jumped(r, low32(x));
         if stack_held(r[8], r[4]) {
             return true;
         }
@@ -113,8 +135,49 @@ fn pop(r: &mut [u32; 17], v: u32, n: u32) -> bool
     false
 }
 
+// CATCH whose words the cache holds already: nothing is filled.
+fn catch(r: &mut [u32; 17], mode: MonadicMode, v: u32, n: u32) -> bool
+    ensures { λ z. ⌜ (z ≡ true → ((q : Cache) → catchOf (cpu (now (r .entry)) q) mode v n ≡ done (cpu (now (r .exit)) q)) × ((q : Cache) → holdsStack (cpu (now (r .exit)) q) ≡ holdsStack (cpu (now (r .entry)) q))) × (z ≡ false → now (r .exit) ≡ now (r .entry)) ⌝ }
+{
+    if is_offset(mode) {
+        if cache_on(r) {
+            if stack_address(r, v) <= r[4] {
+                advanced(r, n);
+                return true;
+            }
+        }
+    }
+    false
+}
+
+// ENTER with room in the cache: nothing is flushed, and the target is checked.
+fn enter(m: &[u8], r: &mut [u32; 17], mode: MonadicMode, v: u32, n: u32) -> bool
+    ensures { λ z. ⌜ (z ≡ true → ((q : Cache) → gives (enterOf (cpu (now (r .entry)) q) mode v n) (now (m .entry)) (cpu (now (r .exit)) q) (now (m .entry))) × ((q : Cache) → holdsStack (cpu (now (r .exit)) q) ≡ true)) × (z ≡ false → now (r .exit) ≡ now (r .entry)) ⌝ }
+{
+    let kept = *r;
+    let a = stack_address(r, v) / 16 * 16;
+    if is_offset(mode) {
+        if cache_on(r) {
+            if minus(r[4], a) <= 256 {
+                let x = check_store(m, r, a);
+                if x < 0x1_0000_0000 {
+                    with_csp(r, a);
+                    with_guard(r, true);
+                    advanced(r, n);
+                    if stack_held(r[8], r[4]) {
+                        return true;
+                    }
+                    *r = kept;
+                }
+            }
+        }
+    }
+    false
+}
+
 // An instruction of one operand, n parcels long.
 pub(crate) fn quick_one(
+    m: &[u8],
     q: &mut [[u32; 4]; 16],
     r: &mut [u32; 17],
     o: Monadic,
@@ -122,18 +185,18 @@ pub(crate) fn quick_one(
     v: u32,
     n: u32,
 ) -> bool
-    ensures { λ z. ⌜ (z ≡ true → (executeMonadic (cpu (now (r .entry)) (now (q .entry))) o mode v n ≡ done (cpu (now (r .exit)) (now (q .exit)))) × (isKcall (oneOperand o mode v) ≡ false) × (holdsStack (cpu (now (r .entry)) (now (q .entry))) ≡ true → holdsStack (cpu (now (r .exit)) (now (q .exit))) ≡ true)) × (z ≡ false → (now (r .exit) ≡ now (r .entry)) × (now (q .exit) ≡ now (q .entry))) ⌝ }
+    ensures { λ z. ⌜ (z ≡ true → gives (executeMonadic (cpu (now (r .entry)) (now (q .entry))) o mode v n) (now (m .entry)) (cpu (now (r .exit)) (now (q .exit))) (now (m .entry)) × (isKcall (oneOperand o mode v) ≡ false) × (holdsStack (cpu (now (r .entry)) (now (q .entry))) ≡ true → holdsStack (cpu (now (r .exit)) (now (q .exit))) ≡ true)) × (z ≡ false → (now (r .exit) ≡ now (r .entry)) × (now (q .exit) ≡ now (q .entry))) ⌝ }
 {
     let flag = bit(r[6], 4);
     match o {
         Monadic::Kcall => false,
         Monadic::Call => call(q, r, mode, v, n),
-        Monadic::Return => return_near(q, r, v),
+        Monadic::Return => return_quiet(m, q, r, v),
         Monadic::Jmp => jump(r, mode, v),
         Monadic::JmpFalse => jump_if(r, !flag, mode, v, n),
         Monadic::JmpTrue => jump_if(r, flag, mode, v, n),
-        Monadic::Catch => false,
-        Monadic::Enter => false,
+        Monadic::Catch => catch(r, mode, v, n),
+        Monadic::Enter => enter(m, r, mode, v, n),
         Monadic::Ldraa => false,
         Monadic::Flush => false,
         Monadic::Popn => pop(r, v, n),

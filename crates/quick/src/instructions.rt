@@ -95,7 +95,7 @@ fn quick_instruction(
     let plan = plan_of(i);
     match plan {
         Plan::Two(wide, t, a, s, b, d) => quick_two(m, q, r, n, wide, t, a, s, b, d),
-        Plan::One(o, mode, v) => quick_one(q, r, o, mode, v, n),
+        Plan::One(o, mode, v) => quick_one(m, q, r, o, mode, v, n),
         Plan::Other => false,
     }
 }

@@ -1,4 +1,4 @@
-use Rattle.quick.proofs.FlowLaws.{calls, returns-near, jumps, jumps-true, jumps-false, pops}
+use Rattle.quick.proofs.FlowLaws.{calls, returns-quiet, jumps, jumps-true, jumps-false, pops, catches, enters}
 use Rattle.quick.proofs.GiveLaws.{not-both}
 use mathlib.Core.Path.{refl}
 use borrow.Author.Needs.{needs}
@@ -23,8 +23,8 @@ call-requires c κs = search needs
 enum-told-3 : tie.Need-enum-told-3
 enum-told-3 c = search needs
 
-return-near-requires : tie.Need-return-near-requires
-return-near-requires c κs = search needs
+return-quiet-requires : tie.Need-return-quiet-requires
+return-quiet-requires c κs = search needs
 
 enum-told-4 : tie.Need-enum-told-4
 enum-told-4 c = search needs
@@ -47,8 +47,14 @@ jump-if-requires-2 c κs = search needs
 enum-told-7 : tie.Need-enum-told-7
 enum-told-7 c = search needs
 
+catch-requires : tie.Need-catch-requires
+catch-requires c κs = search needs
+
 enum-told-8 : tie.Need-enum-told-8
 enum-told-8 c = search needs
+
+enter-requires : tie.Need-enter-requires
+enter-requires c κs = search needs
 
 enum-told-9 : tie.Need-enum-told-9
 enum-told-9 c = search needs
@@ -66,25 +72,25 @@ returns : tie.Need-returns
 returns c = (λ h. not-both h, λ h. (refl, refl))
 
 returns-2 : tie.Need-returns-2
-returns-2 c = (λ h. calls (c .before .before .before .before .before .before .before .args .r .now) _ (c .before .before .before .before .before .before .before .args .q .now) _ (c .before .before .before .before .before .before .before .args .o) (c .before .before .before .before .before .before .before .args .mode) (c .before .before .before .before .before .before .before .args .v) (c .before .before .before .before .before .before .before .args .n) (c .before .before .before .enum-told2 .given .1) (c .call .ensures .0 h), λ h. c .call .ensures .1 h)
+returns-2 c = (λ h. calls (c .before .before .before .before .before .before .before .before .args .m .now) (c .before .before .before .before .before .before .before .before .args .r .now) _ (c .before .before .before .before .before .before .before .before .args .q .now) _ (c .before .before .before .before .before .before .before .before .args .o) (c .before .before .before .before .before .before .before .before .args .mode) (c .before .before .before .before .before .before .before .before .args .v) (c .before .before .before .before .before .before .before .before .args .n) (c .before .before .before .enum-told2 .given .1) (c .call .ensures .0 h), λ h. c .call .ensures .1 h)
 
 returns-3 : tie.Need-returns-3
-returns-3 c = (λ h. returns-near (c .before .before .before .before .before .before .before .args .r .now) _ (c .before .before .before .before .before .before .before .args .q .now) _ (c .before .before .before .before .before .before .before .args .o) (c .before .before .before .before .before .before .before .args .mode) (c .before .before .before .before .before .before .before .args .v) (c .before .before .before .before .before .before .before .args .n) (c .before .before .before .enum-told3 .given .1) refl (c .return-near .ensures .0 h), λ h. (c .return-near .ensures .1 h, refl))
+returns-3 c = (λ h. returns-quiet (c .before .before .before .before .before .before .before .before .args .m .now) (c .before .before .before .before .before .before .before .before .args .r .now) _ (c .before .before .before .before .before .before .before .before .args .q .now) _ (c .before .before .before .before .before .before .before .before .args .o) (c .before .before .before .before .before .before .before .before .args .mode) (c .before .before .before .before .before .before .before .before .args .v) (c .before .before .before .before .before .before .before .before .args .n) (c .before .before .before .enum-told3 .given .1) refl (c .return-quiet .ensures .0 h), λ h. (c .return-quiet .ensures .1 h, refl))
 
 returns-4 : tie.Need-returns-4
-returns-4 c = (λ h. jumps (c .before .before .before .before .before .before .args .r .now) _ (c .before .before .before .before .before .before .args .q .now) _ (c .before .before .before .before .before .before .args .o) (c .before .before .before .before .before .before .args .mode) (c .before .before .before .before .before .before .args .v) (c .before .before .before .before .before .before .args .n) (c .before .before .enum-told4 .given .1) refl (c .jump .ensures .0 h), λ h. (c .jump .ensures .1 h, refl))
+returns-4 c = (λ h. jumps (c .before .before .before .before .before .before .before .args .m .now) (c .before .before .before .before .before .before .before .args .r .now) _ (c .before .before .before .before .before .before .before .args .q .now) _ (c .before .before .before .before .before .before .before .args .o) (c .before .before .before .before .before .before .before .args .mode) (c .before .before .before .before .before .before .before .args .v) (c .before .before .before .before .before .before .before .args .n) (c .before .before .enum-told4 .given .1) refl (c .jump .ensures .0 h), λ h. (c .jump .ensures .1 h, refl))
 
 returns-5 : tie.Need-returns-5
-returns-5 c = (λ h. jumps-false (c .before .before .before .before .before .before .args .r .now) _ (c .before .before .before .before .before .before .args .q .now) _ (c .before .before .before .before .before .before .args .o) (c .before .before .before .before .before .before .args .mode) (c .before .before .before .before .before .before .args .v) (c .before .before .before .before .before .before .args .n) (c .before .before .enum-told5 .given .1) refl (c .before .before .before .before .bit .result) (c .before .before .before .before .bit .ensures) (c .jump-if .ensures .0 h), λ h. (c .jump-if .ensures .1 h, refl))
+returns-5 c = (λ h. jumps-false (c .before .before .before .before .before .before .before .args .m .now) (c .before .before .before .before .before .before .before .args .r .now) _ (c .before .before .before .before .before .before .before .args .q .now) _ (c .before .before .before .before .before .before .before .args .o) (c .before .before .before .before .before .before .before .args .mode) (c .before .before .before .before .before .before .before .args .v) (c .before .before .before .before .before .before .before .args .n) (c .before .before .enum-told5 .given .1) refl (c .before .before .before .before .bit .result) (c .before .before .before .before .bit .ensures) (c .jump-if .ensures .0 h), λ h. (c .jump-if .ensures .1 h, refl))
 
 returns-6 : tie.Need-returns-6
-returns-6 c = (λ h. jumps-true (c .before .before .before .before .before .before .args .r .now) _ (c .before .before .before .before .before .before .args .q .now) _ (c .before .before .before .before .before .before .args .o) (c .before .before .before .before .before .before .args .mode) (c .before .before .before .before .before .before .args .v) (c .before .before .before .before .before .before .args .n) (c .before .before .enum-told6 .given .1) refl (c .before .before .before .before .bit .result) (c .before .before .before .before .bit .ensures) (c .jump-if2 .ensures .0 h), λ h. (c .jump-if2 .ensures .1 h, refl))
+returns-6 c = (λ h. jumps-true (c .before .before .before .before .before .before .before .args .m .now) (c .before .before .before .before .before .before .before .args .r .now) _ (c .before .before .before .before .before .before .before .args .q .now) _ (c .before .before .before .before .before .before .before .args .o) (c .before .before .before .before .before .before .before .args .mode) (c .before .before .before .before .before .before .before .args .v) (c .before .before .before .before .before .before .before .args .n) (c .before .before .enum-told6 .given .1) refl (c .before .before .before .before .bit .result) (c .before .before .before .before .bit .ensures) (c .jump-if2 .ensures .0 h), λ h. (c .jump-if2 .ensures .1 h, refl))
 
 returns-7 : tie.Need-returns-7
-returns-7 c = (λ h. not-both h, λ h. (refl, refl))
+returns-7 c = (λ h. catches (c .before .before .before .before .before .before .before .args .m .now) (c .before .before .before .before .before .before .before .args .r .now) _ (c .before .before .before .before .before .before .before .args .q .now) _ (c .before .before .before .before .before .before .before .args .o) (c .before .before .before .before .before .before .before .args .mode) (c .before .before .before .before .before .before .before .args .v) (c .before .before .before .before .before .before .before .args .n) (c .before .before .enum-told7 .given .1) refl (c .catch .ensures .0 h), λ h. (c .catch .ensures .1 h, refl))
 
 returns-8 : tie.Need-returns-8
-returns-8 c = (λ h. not-both h, λ h. (refl, refl))
+returns-8 c = (λ h. enters (c .before .before .before .before .before .before .before .args .m .now) (c .before .before .before .before .before .before .before .args .r .now) _ (c .before .before .before .before .before .before .before .args .q .now) _ (c .before .before .before .before .before .before .before .args .o) (c .before .before .before .before .before .before .before .args .mode) (c .before .before .before .before .before .before .before .args .v) (c .before .before .before .before .before .before .before .args .n) (c .before .before .enum-told8 .given .1) refl (c .enter .ensures .0 h), λ h. (c .enter .ensures .1 h, refl))
 
 returns-9 : tie.Need-returns-9
 returns-9 c = (λ h. not-both h, λ h. (refl, refl))
@@ -93,7 +99,7 @@ returns-10 : tie.Need-returns-10
 returns-10 c = (λ h. not-both h, λ h. (refl, refl))
 
 returns-11 : tie.Need-returns-11
-returns-11 c = (λ h. pops (c .before .before .before .before .before .before .args .r .now) _ (c .before .before .before .before .before .before .args .q .now) _ (c .before .before .before .before .before .before .args .o) (c .before .before .before .before .before .before .args .mode) (c .before .before .before .before .before .before .args .v) (c .before .before .before .before .before .before .args .n) (c .before .before .enum-told11 .given .1) refl (c .pop .ensures .0 h), λ h. (c .pop .ensures .1 h, refl))
+returns-11 c = (λ h. pops (c .before .before .before .before .before .before .before .args .m .now) (c .before .before .before .before .before .before .before .args .r .now) _ (c .before .before .before .before .before .before .before .args .q .now) _ (c .before .before .before .before .before .before .before .args .o) (c .before .before .before .before .before .before .before .args .mode) (c .before .before .before .before .before .before .before .args .v) (c .before .before .before .before .before .before .before .args .n) (c .before .before .enum-told11 .given .1) refl (c .pop .ensures .0 h), λ h. (c .pop .ensures .1 h, refl))
 
 pub quick-one-spec : {M : Type 1} → statement M
 quick-one-spec =
@@ -105,7 +111,7 @@ quick-one-spec =
     enum-told-2
     call-requires
     enum-told-3
-    return-near-requires
+    return-quiet-requires
     enum-told-4
     jump-requires
     enum-told-5
@@ -113,7 +119,9 @@ quick-one-spec =
     enum-told-6
     jump-if-requires-2
     enum-told-7
+    catch-requires
     enum-told-8
+    enter-requires
     enum-told-9
     enum-told-10
     enum-told-11

@@ -32,8 +32,11 @@ same-length c = search needs
 returns : tie.Need-returns
 returns c = (λ h. two-went (c .before .before .before .before .before .before .before .before .before .before .before .before .args .r .now) _ (c .before .before .before .before .before .before .before .before .before .before .before .before .args .q .now) _ (c .before .before .before .before .before .before .before .before .before .before .before .before .args .m .now) _ (c .before .before .before .before .before .before .before .before .before .before .before .before .args .i) (c .before .before .before .before .before .before .before .before .before .before .length-of .result) (c .before .before .before .before .before .before .before .before .before .before .length-of .ensures) (c .before .before .before .before .before .before .before .before .before .plan-of .result) (c .before .before .before .before .before .before .before .before .before .plan-of .ensures) _ _ _ _ _ _ (c .before .before .before .before .before .before .before .plan .given .1) (c .before .before .quick-two .ensures .0 h), λ h. c .before .before .quick-two .ensures .1 h)
 
+same-length-2 : tie.Need-same-length-2
+same-length-2 c = search needs
+
 returns-2 : tie.Need-returns-2
-returns-2 c = (λ h. one-went (c .before .before .before .before .before .before .before .before .before .args .r .now) _ (c .before .before .before .before .before .before .before .before .before .args .q .now) _ (c .before .before .before .before .before .before .before .before .before .args .m .now) _ (c .before .before .before .before .before .before .before .before .before .args .i) (c .before .before .before .before .before .before .before .length-of .result) (c .before .before .before .before .before .before .before .length-of .ensures) (c .before .before .before .before .before .before .plan-of .result) (c .before .before .before .before .before .before .plan-of .ensures) _ _ _ (c .before .before .before .before .plan2 .given .1) refl (c .quick-one .ensures .0 h), λ h. (refl, c .quick-one .ensures .1 h .0, c .quick-one .ensures .1 h .1))
+returns-2 c = (λ h. one-went (c .before .before .before .before .before .before .before .before .before .before .args .r .now) _ (c .before .before .before .before .before .before .before .before .before .before .args .q .now) _ (c .before .before .before .before .before .before .before .before .before .before .args .m .now) _ (c .before .before .before .before .before .before .before .before .before .before .args .i) (c .before .before .before .before .before .before .before .before .length-of .result) (c .before .before .before .before .before .before .before .before .length-of .ensures) (c .before .before .before .before .before .before .before .plan-of .result) (c .before .before .before .before .before .before .before .plan-of .ensures) _ _ _ (c .before .before .before .before .before .plan2 .given .1) refl (c .quick-one .ensures .0 h), λ h. (refl, c .quick-one .ensures .1 h .0, c .quick-one .ensures .1 h .1))
 
 returns-3 : tie.Need-returns-3
 returns-3 c = (λ h. not-both h, λ h. (refl, refl, refl))
@@ -51,5 +54,6 @@ quick-instruction-spec =
     enum-told
     same-length
     returns
+    same-length-2
     returns-2
     returns-3)
