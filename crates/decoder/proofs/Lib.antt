@@ -1,7 +1,7 @@
-mod ShortLaws
-mod DyadicLaws
-mod MonadicLaws
-mod FormLaws
-mod RestLaws
-mod TextLaws
+pub mod ShortLaws
+pub mod DyadicLaws
+pub mod MonadicLaws
+pub mod FormLaws
+pub mod RestLaws
+pub mod TextLaws
 pub mod Laws

@@ -52,7 +52,7 @@ fn extend_half(m: Mode, x: u32) -> u32
     if is_absolute(m) { x } else { extend(16, x) }
 }
 
-fn value(wide: Wide, m: Mode, x: u32) -> u32
+pub fn value(wide: Wide, m: Mode, x: u32) -> u32
     ensures { λ r. ⌜ r ≡ operandValue wide m x ⌝ }
 {
     match wide {

@@ -16,7 +16,7 @@ ghost use mathlib.Core.Path.{_≡_};
 ghost use Rattle.isa.specs.Decode.{shortEntry, shortInstruction, shortAnswer, decodeShort};
 
 // Opcode 2 has its subcode in bits 9:8, opcode 0xB in bits 9:0.
-fn find_entry(e: ShortEntry, p: u16) -> ShortEntry
+pub fn find_entry(e: ShortEntry, p: u16) -> ShortEntry
     ensures { λ r. ⌜ r ≡ shortEntry e p ⌝ }
 {
     match e {

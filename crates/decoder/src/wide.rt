@@ -10,7 +10,7 @@ ghost use mathlib.Core.Path.{_≡_};
 ghost use Rattle.isa.specs.Decode.{decodeWide};
 ghost use Rattle.decoder.specs.Forms.{formOf, afterOf, monadicForm, firstOf, secondOf};
 
-fn find_form(p: u16) -> Wide
+pub fn find_form(p: u16) -> Wide
     ensures { λ r. ⌜ r ≡ formOf p ⌝ }
 {
     if p < 0xC000 { Wide::Three } else { Wide::Five }
@@ -27,7 +27,7 @@ fn after(wide: Wide) -> usize
 }
 
 // Opcode 0 of three parcels is the monadics'.
-fn is_monadic(wide: Wide, p: u16) -> bool
+pub fn is_monadic(wide: Wide, p: u16) -> bool
     ensures { λ r. ⌜ r ≡ monadicForm wide p ⌝ }
 {
     match wide {
@@ -36,7 +36,7 @@ fn is_monadic(wide: Wide, p: u16) -> bool
     }
 }
 
-fn first(wide: Wide, a: u16, b: u16) -> u32
+pub fn first(wide: Wide, a: u16, b: u16) -> u32
     ensures { λ r. ⌜ r ≡ firstOf wide a b ⌝ }
 {
     match wide {
@@ -45,7 +45,7 @@ fn first(wide: Wide, a: u16, b: u16) -> u32
     }
 }
 
-fn second(wide: Wide, b: u16, c: u16, d: u16) -> u32
+pub fn second(wide: Wide, b: u16, c: u16, d: u16) -> u32
     ensures { λ r. ⌜ r ≡ secondOf wide b c d ⌝ }
 {
     match wide {

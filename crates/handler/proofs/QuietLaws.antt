@@ -55,6 +55,9 @@ module _ (stb : ℕ) (user t : Bool) (k : Kind) (a : ℕ) (m : Memory) where
   unfolding route
   quiet-physical h = direct (rw h refl)
 
+  pub quiet-translated : (x : ℕ) → t ≡ true → (x < 2 ^ 32 → Quiet (regimeFor stb user true) k a m x) → x < 2 ^ 32 → Quiet (regimeFor stb user t) k a m x
+  quiet-translated x h f l = rw h (f l)
+
   module _ (h : t ≡ true) (w : Walk) (e : w ≡ walk user stb k a m) (pa : ℕ) where
     pub quiet-direct : w ≡ Direct pa → Quiet (regimeFor stb user t) k a m pa
     unfolding route

@@ -10,9 +10,6 @@ use memory::stores::store;
 use mmu::Kind;
 use mmu::Walk;
 use mmu::translation::translate;
-use mmu::translation::translate_fetch;
-use mmu::translation::translate_read;
-use mmu::translation::translate_write;
 use word::Width;
 ghost use mathlib.Core.Path.{_≡_};
 ghost use mathlib.Core.Bool.{true};
@@ -47,7 +44,7 @@ fn read_walked(
 ) -> u64
     ensures { λ r. ⌜ gave (answerOf r) (journaled (now (m .exit)) (now (places .exit)) (now (words .exit))) ≡ followed (reads (regimeFor stb user true) w a) (walk user stb kind.Read a (now (m .entry))) (journaled (now (m .entry)) (now (places .entry)) (now (words .entry))) ⌝ }
 {
-    let x = translate_read(m, user, stb, a);
+    let x = translate(m, user, stb, Kind::Read, a);
     match x {
         Walk::Fault(c) => raised(c),
         Walk::Direct(pa) => load(m, w, pa),
@@ -113,7 +110,7 @@ fn write_walked(
 ) -> u64
     ensures { λ r. ⌜ gave (answerOf r) (journaled (now (m .exit)) (now (places .exit)) (now (words .exit))) ≡ followed (writes (regimeFor stb user true) w a v) (walk user stb kind.Write a (now (m .entry))) (journaled (now (m .entry)) (now (places .entry)) (now (words .entry))) ⌝ }
 {
-    let x = translate_write(m, user, stb, a);
+    let x = translate(m, user, stb, Kind::Write, a);
     match x {
         Walk::Fault(c) => raised(c),
         Walk::Direct(pa) => store_noted(m, places, words, w, pa, v),
@@ -159,7 +156,7 @@ fn fetch_walked(
 ) -> u64
     ensures { λ r. ⌜ gave (answerOf r) (journaled (now (m .exit)) (now (places .exit)) (now (words .exit))) ≡ followed (fetches (regimeFor stb user true) a) (walk user stb kind.Fetch (a / 2 * 2) (now (m .entry))) (journaled (now (m .entry)) (now (places .entry)) (now (words .entry))) ⌝ }
 {
-    let x = translate_fetch(m, user, stb, a / 2 * 2);
+    let x = translate(m, user, stb, Kind::Fetch, a / 2 * 2);
     match x {
         Walk::Fault(c) => raised(c),
         Walk::Direct(pa) => load_half(m, pa),

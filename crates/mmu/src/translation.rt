@@ -90,22 +90,8 @@ pub fn translate(m: &[u8], user: bool, stb: u32, k: Kind, va: u32) -> Walk
     second_stage(m, user, stb, k, va, s)
 }
 
-// The same for the place of a quad-word and for a place whose walk sets no bit, and the walks of accesses: each has one
-// caller, so that the compiler lays it there.
-pub fn translate_quad(m: &[u8], user: bool, stb: u32, k: Kind, va: u32) -> Walk
-    ensures { λ r. ⌜ r ≡ walk user stb k va (now (m .entry)) ⌝ }
-{
-    let s = segment_entry(m, stb, va);
-    second_stage(m, user, stb, k, va, s)
-}
-
-pub fn translate_quiet(m: &[u8], user: bool, stb: u32, k: Kind, va: u32) -> Walk
-    ensures { λ r. ⌜ r ≡ walk user stb k va (now (m .entry)) ⌝ }
-{
-    let s = segment_entry(m, stb, va);
-    second_stage(m, user, stb, k, va, s)
-}
-
+// The same by the kind of access, for places whose walk sets no bit, and for the quad-words that a fill reads and a flush
+// writes: each has one caller, so that the compiler lays it there.
 pub fn translate_fetch(m: &[u8], user: bool, stb: u32, va: u32) -> Walk
     ensures { λ r. ⌜ r ≡ walk user stb kind.Fetch va (now (m .entry)) ⌝ }
 {
@@ -121,6 +107,20 @@ pub fn translate_read(m: &[u8], user: bool, stb: u32, va: u32) -> Walk
 }
 
 pub fn translate_write(m: &[u8], user: bool, stb: u32, va: u32) -> Walk
+    ensures { λ r. ⌜ r ≡ walk user stb kind.Write va (now (m .entry)) ⌝ }
+{
+    let s = segment_entry(m, stb, va);
+    second_stage(m, user, stb, Kind::Write, va, s)
+}
+
+pub fn translate_fill(m: &[u8], user: bool, stb: u32, va: u32) -> Walk
+    ensures { λ r. ⌜ r ≡ walk user stb kind.Read va (now (m .entry)) ⌝ }
+{
+    let s = segment_entry(m, stb, va);
+    second_stage(m, user, stb, Kind::Read, va, s)
+}
+
+pub fn translate_flush(m: &[u8], user: bool, stb: u32, va: u32) -> Walk
     ensures { λ r. ⌜ r ≡ walk user stb kind.Write va (now (m .entry)) ⌝ }
 {
     let s = segment_entry(m, stb, va);

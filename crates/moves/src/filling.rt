@@ -1,10 +1,9 @@
 // Filling: quad-words of memory to the stack cache, from MSP up, in a regime given by its numbers.
 use access::faults::set_fault;
 use handler::accesses::read;
-use handler::quads::quad_place;
+use handler::quads::fill_place;
 use memory::answers::low32;
 use memory::loads::load_word;
-use mmu::Kind;
 use word::Width;
 use word::sums::minus;
 use word::sums::plus;
@@ -67,7 +66,7 @@ fn fill_words(
     x3
 }
 
-// The word i bytes on in the quad-word at a that `quad_place` found at pa. (stb, user and a stand in the contract
+// The word i bytes on in the quad-word at a that `fill_place` found at pa. (stb, user and a stand in the contract
 // alone.)
 fn read_beside(m: &[u8], stb: u32, user: bool, a: u32, pa: u32, i: u32) -> u64
     requires { ⌜ Quad user stb kind.Read a (now m) pa × (i < 16) × (i % 4 ≡ 0) ⌝ }
@@ -114,7 +113,7 @@ fn fill_quad(
     ensures { λ x. ⌜ gave (ended (answerOf x) (now (r .exit)) (now (q .exit))) (journaled (now (m .exit)) (now (places .exit)) (now (words .exit))) ≡ interpret logging (fillQuad (cpu (now (r .entry)) (now (q .entry))) (regimeFor stb user translated) a) (journaled (now (m .entry)) (now (places .entry)) (now (words .entry))) ⌝ }
 {
     if translated {
-        let x = quad_place(m, stb, user, Kind::Read, a);
+        let x = fill_place(m, stb, user, a);
         if x < 0x1_0000_0000 {
             return fill_found(m, q, r, stb, user, a, low32(x));
         }

@@ -1,12 +1,11 @@
 // Flushing: quad-words of the stack cache to memory, from MSP down.
 use access::faults::set_fault;
 use handler::accesses::store_noted;
-use handler::quads::quad_place;
+use handler::quads::flush_place;
 use machine::cache::cache_word;
 use machine::status::is_user;
 use machine::status::is_virtual;
 use memory::answers::low32;
-use mmu::Kind;
 use word::Width;
 use word::sums::minus;
 use word::sums::plus;
@@ -90,7 +89,7 @@ fn flush_words(
     x3
 }
 
-// The word v stored i bytes on in the quad-word at a that `quad_place` found at pa, which keeps its place.
+// The word v stored i bytes on in the quad-word at a that `flush_place` found at pa, which keeps its place.
 fn write_beside(
     m: &mut [u8],
     places: &mut [u32; 201],
@@ -147,7 +146,7 @@ fn flush_quad(
     let stb = r[9];
     let user = is_user(r);
     if translated {
-        let x = quad_place(m, stb, user, Kind::Write, a);
+        let x = flush_place(m, stb, user, a);
         if x < 0x1_0000_0000 {
             let y = flush_found(m, places, words, q, stb, user, a, low32(x));
             r[4] = a;

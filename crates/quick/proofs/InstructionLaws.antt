@@ -1,25 +1,18 @@
--- An instruction performed, and the one at PC.
+-- An instruction performed by its plan, and the one at PC.
 -- Assumes nothing.
 use Prim.Native.Nat.{ℕ, _+_, _%_, _^_, _<_, _≤_}
-use mathlib.Core.Path.{_≡_, refl, sym, ap, subst, _∙_}
-use mathlib.Core.Bool.{Bool, true, false}
-use lib.Dec.{eqb}
+use mathlib.Core.Path.{_≡_, refl, sym, ap, _∙_}
+use mathlib.Core.Bool.{true, false}
 use lib.ListN.{length}
+use borrow.Author.Tests.{ne-eqb}
 use Rattle.isa.specs.declared.Mode.{Mode}
 use Rattle.isa.specs.declared.MonadicMode.{MonadicMode}
-use Rattle.isa.specs.declared.Operand.{Operand}
 use Rattle.isa.specs.declared.Operand.the-variants.{General}
 use Rattle.isa.specs.declared.Wide.{Wide}
-use Rattle.isa.specs.declared.Wide.the-variants.{Five}
 use Rattle.isa.specs.declared.Answer.{Answer}
 use Rattle.isa.specs.declared.Answer.the-variants.{Is}
 use Rattle.isa.specs.declared.Instruction.{Instruction}
-use Rattle.isa.specs.declared.Instruction.the-variants as instruction
-use Rattle.isa.specs.declared.ShortInstruction.{ShortInstruction}
-use Rattle.isa.specs.declared.DyadicInstruction.{DyadicInstruction}
-use Rattle.isa.specs.declared.MonadicInstruction.{MonadicInstruction}
 use Rattle.isa.specs.Decode.{decodeOf, cpuPrefix}
-use Rattle.isa.specs.Encode.{lengthOf}
 use Rattle.memory.specs.Bytes.{Memory}
 use Rattle.mmu.specs.declared.Kind.the-variants.{Fetch}
 use Rattle.program.specs.Access.{gave}
@@ -32,67 +25,28 @@ use Rattle.access.specs.Parts.{ok, _>>=_}
 use Rattle.access.specs.Text.{fetchText}
 use Rattle.exec.specs.declared.Monadic.{Monadic}
 use Rattle.exec.specs.declared.Task.{Task}
-use Rattle.exec.specs.Execute.{Normal, twoOperands, oneOperand, shortNormal, taskOf, monadicOf, normal, executeMonadic, executeNormal, execute}
-use Rattle.rows.specs.declared.ShortForm.{ShortForm}
-use Rattle.rows.specs.declared.ShortForm.the-variants as form
-use Rattle.rows.specs.Rows.{formed}
+use Rattle.exec.specs.Execute.{twoOperands, oneOperand, executeMonadic, executeNormal, execute}
 use Rattle.step.specs.Step.{met, meets, fetchInstruction, holdsStack}
 use Rattle.run.specs.Run.{isKcall}
-use Rattle.quick.specs.declared.instructions.Plan.{Plan}
-use Rattle.quick.specs.declared.instructions.Plan.the-variants.{Two, One, Other}
-use Rattle.quick.specs.Plans.{Planned}
+use Rattle.plans.specs.declared.Plan.{Plan}
+use Rattle.plans.specs.declared.Plan.the-variants.{Two, One}
+use Rattle.plans.specs.Plans.{normalOf, Does, Planned}
 use Rattle.quick.specs.Quick.{gives}
-use Rattle.quick.specs.Performed.{parcelAt, textAt, Went, Answered, Performed}
+use Rattle.quick.specs.Performed.{parcelAt, textAt, lengthAt, Went, Executed, Performed}
 use Rattle.quick.proofs.GiveLaws.{gives-then}
 use Rattle.quick.proofs.TextLaws.{text-quiet}
 
--- ---- plans
-
-module _ (p : Plan) where
-  pub plan-two : (f : ShortForm) (t : Task) (a b : Mode) (x y : ℕ) → f ≡ form.Two t a b → p ≡ Two Five t a x b y → Planned p (formed f x y)
-  plan-two f t a b x y h e = rw (e, h) refl
-
-  pub plan-one : (f : ShortForm) (o : Monadic) (k : MonadicMode) (x y : ℕ) → f ≡ form.One o k → p ≡ One o k x → Planned p (formed f x y)
-  plan-one f o k x y h e = rw (e, h) refl
-
-  pub plan-other : (n : Normal) → p ≡ Other → Planned p n
-  plan-other n e = rw e refl
-
-  pub plan-wide : (w : Wide) (t : Task) (s d : Operand) (a b : Mode) (x y : ℕ) → s ≡ General a x → d ≡ General b y → p ≡ Two w t a x b y → Planned p (twoOperands w t s d)
-  plan-wide w t s d a b x y h k e = rw (e, h, k) refl
-
-  module _ (i : Instruction) where
-    pub plan-short : (j : ShortInstruction) → i ≡ instruction.Short j → (f : ShortForm) → formed f ≡ shortNormal (j .row) → Planned p (formed f (j .source) (j .destination)) → Planned p (normal i)
-    plan-short j h f e g = rw h (subst (Planned p) (ap (λ (z : ℕ → ℕ → Normal). z (j .source) (j .destination)) e) g)
-
-    pub plan-dyadic : (j : DyadicInstruction) → i ≡ instruction.Dyadic j → (t : Task) → t ≡ taskOf (j .row) → Planned p (twoOperands (j .wide) t (j .source) (j .destination)) → Planned p (normal i)
-    plan-dyadic j h t e g = rw (h, ← e) g
-
-    pub plan-monadic : (j : MonadicInstruction) → i ≡ instruction.Monadic j → (o : Monadic) → o ≡ monadicOf (j .row) → p ≡ One o (j .mode) (j .value) → Planned p (normal i)
-    plan-monadic j h o e k = rw (k, h, ← e) refl
-
 -- ---- by the plan
 
-module _ (b e : Bank) (q s : Cache) (m n : Memory) (i : Instruction) (l : ℕ) (el : l ≡ lengthOf i) (p : Plan) (g : Planned p (normal i)) where
-  pub two-went : (w : Wide) (t : Task) (a d : Mode) (x y : ℕ) → p ≡ Two w t a x d y → gives (executeNormal (cpu b q) l (twoOperands w t (General a x) (General d y))) m (cpu e s) n × (holdsStack (cpu e s) ≡ holdsStack (cpu b q))
-      → Went i (cpu b q) m (cpu e s) n
-  unfolding execute
-  two-went w t a d x y h k = record { executed = rw (is, ← el) (k .0); free = rw is refl; held = λ z. k .1 ∙ z }
-    where
-      is : normal i ≡ twoOperands w t (General a x) (General d y)
-      is = subst (λ z. Planned z (normal i)) h g
+module _ (b e : Bank) (q s : Cache) (m n : Memory) (l : ℕ) (p : Plan) where
+  pub two-executed : (w : Wide) (t : Task) (a d : Mode) (x y : ℕ) → p ≡ Two w t a x d y → gives (executeNormal (cpu b q) l (twoOperands w t (General a x) (General d y))) m (cpu e s) n × (holdsStack (cpu e s) ≡ holdsStack (cpu b q))
+      → Executed p l (cpu b q) m (cpu e s) n
+  two-executed w t a d x y h k = record { planned = rw h refl; executed = rw h (k .0); free = rw h refl; held = λ z. k .1 ∙ z }
 
-  pub one-went : (o : Monadic) (k : MonadicMode) (v : ℕ) → p ≡ One o k v → n ≡ m → gives (executeMonadic (cpu b q) o k v l) m (cpu e s) m × (isKcall (oneOperand o k v) ≡ false) × (holdsStack (cpu b q) ≡ true → holdsStack (cpu e s) ≡ true)
-      → Went i (cpu b q) m (cpu e s) n
-  unfolding execute executeNormal
-  one-went o k v h f u =
-      record { executed = rw (is, ← el, f) (u .0); free = rw is (u .1); held = u .2 }
-    where
-      is : normal i ≡ oneOperand o k v
-      is = subst (λ z. Planned z (normal i)) h g
-
-pub answered-went : (c d : Cpu) (m n : Memory) (a : Answer) (i : Instruction) → a ≡ Is i → Went i c m d n → Answered a c m d n
-answered-went c d m n a i h g = record { instruction = i; is = h; went = g }
+  pub one-executed : (o : Monadic) (k : MonadicMode) (v : ℕ) → p ≡ One o k v → n ≡ m → gives (executeMonadic (cpu b q) o k v l) m (cpu e s) m × (isKcall (oneOperand o k v) ≡ false) × (holdsStack (cpu b q) ≡ true → holdsStack (cpu e s) ≡ true)
+      → Executed p l (cpu b q) m (cpu e s) n
+  unfolding executeNormal
+  one-executed o k v h f u = record { planned = rw h refl; executed = rw (h, f) (u .0); free = rw h (u .1); held = u .2 }
 
 -- ---- the instruction at PC
 
@@ -103,7 +57,19 @@ instruction-fetched c m k i g e = gives-then (fetchText c) _ m m m (textAt m k) 
     decoded : (z : Cpu) (l : Memory) (a : Answer) (j : Instruction) → a ≡ Is j → interpret plain (ret (met z a)) l ≡ gave (ok (meets j)) l
     decoded z l a j f = rw f refl
 
+module _ (c d : Cpu) (m n : Memory) (p : Plan) (l : ℕ) (a : Answer) (g : Does (normalOf p) l a) (x : Executed p l c m d n) where
+  went : Went (g .instruction) c m d n
+  unfolding execute
+  went = record { executed = rw (g .long, g .does) (x .executed); free = rw (g .does) (x .free); held = x .held }
+
 pub performed : (b e : Bank) (q s : Cache) (m n : Memory) (a k : ℕ) → a ≡ word b pc → Quiet (regime b) Fetch a m k × (a % 2 ≡ 0) × (a % 0x1000 + 10 ≤ 0x1000) × (a < 2 ^ 32) × (k + 10 ≤ length m)
-    → (f : Bool) → f ≡ eqb (parcelAt m k) cpuPrefix → f ≡ false → (x : Answer) → x ≡ decodeOf (textAt m k) → Answered x (cpu b q) m (cpu e s) n → Performed (cpu b q) m (cpu e s) n
-performed b e q s m n a k ea h f ef g x ex w =
-    record { instruction = w .instruction; fetched = instruction-fetched (cpu b q) m k (w .instruction) (text-quiet b q m a k ea (h .0) (h .1) (h .2) (h .3) (h .4) (sym ef ∙ g)) (sym ex ∙ w .is); went = w .went }
+    → (f : ℕ) → f ≡ parcelAt m k → (f ≡ cpuPrefix → ⊥) → (p : Plan) → Planned p (lengthAt f) (decodeOf (textAt m k)) → (l : ℕ) → l ≡ lengthAt f → Executed p l (cpu b q) m (cpu e s) n → Performed (cpu b q) m (cpu e s) n
+performed b e q s m n a k ea h f ef bare p g l el x =
+    record {
+      instruction = does .instruction;
+      fetched = instruction-fetched (cpu b q) m k (does .instruction) (text-quiet b q m a k ea (h .0) (h .1) (h .2) (h .3) (h .4) (rw (← ef) (ne-eqb f cpuPrefix bare))) (does .is);
+      went = went (cpu b q) (cpu e s) m n p l (decodeOf (textAt m k)) does x;
+    }
+  where
+    does : Does (normalOf p) l (decodeOf (textAt m k))
+    does = rw el (g (x .planned))

@@ -7,7 +7,7 @@ use mathlib.Core.List.{List, [], _∷_}
 use native.Mathlib.Omega.{arith}
 use lib.Dec.{eqb, ltb}
 use lib.ListN.{length, getD}
-use borrow.Author.Tests.{le-leb, lt-ltb, le-ltb}
+use borrow.Author.Tests.{le-leb, lt-ltb, le-ltb, ne-eqb}
 use Rattle.word.specs.Sums.{plusOf}
 use Rattle.memory.specs.Answers.{got}
 use Rattle.memory.specs.Bytes.{Memory, byteAt, number, load}
@@ -22,8 +22,14 @@ use Rattle.handler.proofs.QuietLaws.{fetch-quiet, quiet-beside}
 use Rattle.access.specs.Parts.{done, parcelRequest}
 use Rattle.access.specs.Text.{fetchParcel, fetchParcels, following, fetchAfter, fetchText}
 use Rattle.isa.specs.Decode.{decodeShort, decodeWide, decodeBare, decodeOf, cpuPrefix, textOf}
+use Rattle.isa.specs.declared.Wide.the-variants.{Three, Five}
+use Rattle.isa.specs.Encode.{wideLength}
+use Rattle.decoder.specs.Forms.{formOf, afterOf}
+use Rattle.plans.specs.declared.Plan.{Plan}
+use Rattle.plans.specs.Plans.{Planned}
+use Rattle.plans.proofs.PlanLaws.{planned-as}
 use Rattle.quick.specs.Quick.{gives}
-use Rattle.quick.specs.Performed.{parcelAt, parcelsFrom, textAt}
+use Rattle.quick.specs.Performed.{parcelAt, parcelsFrom, textAt, lengthAt}
 use Rattle.quick.proofs.GiveLaws.{gives-then, gives-done}
 use Rattle.quick.proofs.AccessLaws.{regime-is}
 
@@ -115,12 +121,15 @@ unfolding decodeWide
 wide-cut m p k true e = rw e refl
 wide-cut m p k false e = rw e refl
 
-module _ (m : Memory) (k p : ℕ) (ep : p ≡ parcelAt m k) (plain : eqb (parcelAt m k) cpuPrefix ≡ false) where
-  pub short-decoded : p < 0x8000 → decodeShort p ≡ decodeOf (textAt m k)
+module _ (m : Memory) (k p : ℕ) (ep : p ≡ parcelAt m k) (unprefixed : p ≡ cpuPrefix → ⊥) where
+  plain : eqb (parcelAt m k) cpuPrefix ≡ false
+  plain = rw (← ep) (ne-eqb p cpuPrefix unprefixed)
+
+  short-decoded : p < 0x8000 → decodeShort p ≡ decodeOf (textAt m k)
   short-decoded h =
       ap decodeShort ep ∙ sym (short-bare (parcelAt m k) (parcelsFrom m (k + 2) (following (parcelAt m k))) (rw (← ep) h)) ∙ sym (bare (parcelAt m k) (parcelsFrom m (k + 2) (following (parcelAt m k))) plain)
 
-  pub wide-decoded : 0x8000 ≤ p → (n x y z w : ℕ) → n ≡ cond (ltb p 0xC000) 2 4 → x ≡ parcelAt m (k + 2) → y ≡ parcelAt m (k + 4) → z ≡ parcelAt m (k + 6) → w ≡ parcelAt m (k + 8)
+  wide-decoded : 0x8000 ≤ p → (n x y z w : ℕ) → n ≡ cond (ltb p 0xC000) 2 4 → x ≡ parcelAt m (k + 2) → y ≡ parcelAt m (k + 4) → z ≡ parcelAt m (k + 6) → w ≡ parcelAt m (k + 8)
       → decodeWide false n p x y z w ≡ decodeOf (textAt m k)
   wide-decoded h n x y z w en ex ey ez ew =
       rw (en, ex, ey ∙ at 4 (k + 2 + 2) (omega arith), ez ∙ at 6 (k + 2 + 2 + 2) (omega arith), ew ∙ at 8 (k + 2 + 2 + 2 + 2) (omega arith))
@@ -136,3 +145,19 @@ module _ (m : Memory) (k p : ℕ) (ep : p ≡ parcelAt m k) (plain : eqb (parcel
       called : decodeWide false (length (parcelsFrom m (k + 2) (following (parcelAt m k)))) (parcelAt m k) (getD (parcelsFrom m (k + 2) (following (parcelAt m k))) 0 0) (getD (parcelsFrom m (k + 2) (following (parcelAt m k))) 1 0) (getD (parcelsFrom m (k + 2) (following (parcelAt m k))) 2 0) (getD (parcelsFrom m (k + 2) (following (parcelAt m k))) 3 0)
           ≡ decodeWide false (cond (ltb (parcelAt m k) 0xC000) 2 4) (parcelAt m k) (parcelAt m (k + 2)) (parcelAt m (k + 2 + 2)) (parcelAt m (k + 2 + 2 + 2)) (parcelAt m (k + 2 + 2 + 2 + 2))
       called = rw (le-ltb (parcelAt m k) 0x8000 high) (wide-cut m (parcelAt m k) (k + 2) (ltb (parcelAt m k) 0xC000) refl)
+
+  -- ---- and the plan for it
+
+  after-is : (u : Bool) → afterOf (cond u Three Five) ≡ cond u 2 4
+  after-is true = refl
+  after-is false = refl
+
+  pub short-planned : (x : Plan) → p < 0x8000 → Planned x 1 (decodeShort p) → Planned x (lengthAt p) (decodeOf (textAt m k))
+  short-planned x h f = rw (lt-ltb p 0x8000 h) (planned-as x 1 (decodeShort p) (decodeOf (textAt m k)) (short-decoded h) f)
+
+  pub wide-planned : (x : Plan) → 0x8000 ≤ p → (c d e f : ℕ) → c ≡ parcelAt m (k + 2) → d ≡ parcelAt m (k + 4) → e ≡ parcelAt m (k + 6) → f ≡ parcelAt m (k + 8)
+      → Planned x (wideLength (formOf p)) (decodeWide false (afterOf (formOf p)) p c d e f) → Planned x (lengthAt p) (decodeOf (textAt m k))
+  wide-planned x h c d e f ec ed ee ef g =
+      rw (le-ltb p 0x8000 h)
+      (planned-as x (wideLength (formOf p)) (decodeWide false (afterOf (formOf p)) p c d e f) (decodeOf (textAt m k))
+      (wide-decoded h (afterOf (formOf p)) c d e f (after-is (ltb p 0xC000)) ec ed ee ef) g)

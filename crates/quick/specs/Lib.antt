@@ -1,3 +1,2 @@
 pub mod Performed
-pub mod Plans
 pub mod Quick

@@ -2,22 +2,25 @@
 -- Assumes nothing.
 use Prim.Native.Nat.{ℕ, zero, suc, _+_, _%_, _^_}
 use mathlib.Core.Path.{_≡_}
-use mathlib.Core.Bool.{true, false}
+use mathlib.Core.Bool.{true, false, cond}
 use mathlib.Core.List.{List, [], _∷_}
-use Rattle.isa.specs.declared.Answer.{Answer}
-use Rattle.isa.specs.declared.Answer.the-variants.{Is}
+use lib.Dec.{ltb}
 use Rattle.isa.specs.declared.Instruction.{Instruction}
 use Rattle.isa.specs.declared.Text.{Text}
 use Rattle.isa.specs.Decode.{textOf}
+use Rattle.isa.specs.Encode.{wideLength}
+use Rattle.decoder.specs.Forms.{formOf}
 use Rattle.memory.specs.Bytes.{Memory, number}
 use Rattle.bits.specs.Bits.{bitOf}
 use Rattle.machine.specs.Registers.{Bank, word, psw, sp, msp, nmiTaken, stackHeld}
 use Rattle.machine.specs.Status.{Cpu}
 use Rattle.access.specs.Text.{following}
-use Rattle.exec.specs.Execute.{normal, execute}
+use Rattle.exec.specs.Execute.{normal, executeNormal, execute}
 use Rattle.step.specs.Events.{dueOf, dueCode}
 use Rattle.step.specs.Step.{meets, fetchInstruction, holdsStack}
 use Rattle.run.specs.Run.{isKcall}
+use Rattle.plans.specs.declared.Plan.{Plan}
+use Rattle.plans.specs.Plans.{isPlan, normalOf}
 use Rattle.quick.specs.Quick.{gives}
 
 abbrev pub parcelAt : Memory → ℕ → ℕ
@@ -31,17 +34,22 @@ parcelsFrom m k (suc n) = parcelAt m k ∷ parcelsFrom m (k + 2) n
 abbrev pub textAt : Memory → ℕ → Text
 textAt m k = textOf (parcelAt m k ∷ parcelsFrom m (k + 2) (following (parcelAt m k)))
 
+-- how many parcels it has, by the first
+abbrev pub lengthAt : ℕ → ℕ
+lengthAt p = cond (ltb p 0x8000) 1 (wideLength (formOf p))
+
 -- what an instruction did: it is no KCALL, and it keeps the stack
 pub record Went (i : Instruction) (c : Cpu) (m : Memory) (d : Cpu) (n : Memory) : Type 0 where
   pub executed : gives (execute c i) m d n
   pub free : isKcall (normal i) ≡ false
   pub held : holdsStack c ≡ true → holdsStack d ≡ true
 
--- what the decoder answered, performed
-pub record Answered (a : Answer) (c : Cpu) (m : Memory) (d : Cpu) (n : Memory) : Type 0 where
-  pub instruction : Instruction
-  pub is : a ≡ Is instruction
-  pub went : Went instruction c m d n
+-- a plan of n parcels, performed: it is one, and no KCALL, and it keeps the stack
+pub record Executed (p : Plan) (n : ℕ) (c : Cpu) (m : Memory) (d : Cpu) (k : Memory) : Type 0 where
+  pub planned : isPlan p ≡ true
+  pub executed : gives (executeNormal c n (normalOf p)) m d k
+  pub free : isKcall (normalOf p) ≡ false
+  pub held : holdsStack c ≡ true → holdsStack d ≡ true
 
 -- the instruction at PC
 pub record Performed (c : Cpu) (m : Memory) (d : Cpu) (n : Memory) : Type 0 where

@@ -1,6 +1,7 @@
 // Data accesses that neither fault nor set a bit.
 use handler::accesses::aligned;
-use handler::quiet::quiet_place;
+use handler::quiet::read_place;
+use handler::quiet::write_place;
 use machine::cache::cache_read;
 use machine::cache::cache_write;
 use machine::status::cached;
@@ -12,7 +13,6 @@ use memory::answers::low32;
 use memory::loads::load;
 use memory::places::place;
 use memory::stores::store;
-use mmu::Kind;
 use word::Width;
 ghost use mathlib.Core.Path.{_≡_};
 ghost use mathlib.Core.Bool.{true, false};
@@ -30,7 +30,7 @@ fn read_far(m: &[u8], r: &[u32; 17], w: Width, p: u32) -> u64
     if !aligned(w, p) {
         return 0x1_0000_0000;
     }
-    let x = quiet_place(m, r[9], is_user(r), is_virtual(r), Kind::Read, p);
+    let x = read_place(m, r[9], is_user(r), is_virtual(r), p);
     if 0x1_0000_0000 <= x {
         return x;
     }
@@ -58,7 +58,7 @@ fn store_far(m: &mut [u8], r: &[u32; 17], w: Width, p: u32, v: u32) -> bool
     if !aligned(w, p) {
         return false;
     }
-    let x = quiet_place(m, r[9], is_user(r), is_virtual(r), Kind::Write, p);
+    let x = write_place(m, r[9], is_user(r), is_virtual(r), p);
     if 0x1_0000_0000 <= x {
         return false;
     }

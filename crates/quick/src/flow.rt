@@ -16,6 +16,7 @@ use machine::registers::stack_held;
 use machine::status::cache_on;
 use machine::status::cached;
 use memory::answers::low32;
+use tables::legal::is_stack;
 use word::Width;
 use word::sums::minus;
 use word::sums::plus;
@@ -25,7 +26,6 @@ ghost use Rattle.machine.specs.Cache.{Cache};
 ghost use Rattle.machine.specs.Status.{cpu};
 ghost use Rattle.access.specs.Parts.{done};
 ghost use Rattle.exec.specs.Control.{jump as jumpOf, jumpIf, call as callOf, return as returnOf, released as releasedOf, advanced as advancedOf};
-ghost use Rattle.isa.specs.Legal.{isStack};
 ghost use Rattle.exec.specs.Stack.{enter as enterOf, catch as catchOf};
 ghost use Rattle.exec.specs.Execute.{oneOperand, executeMonadic};
 ghost use Rattle.step.specs.Step.{holdsStack};
@@ -43,21 +43,6 @@ fn is_relative(m: MonadicMode) -> bool
         MonadicMode::FlowAbsoluteIndirect => false,
         MonadicMode::FlowStackIndirect => false,
         MonadicMode::FlowRelative => true,
-        MonadicMode::FlowAbsolute => false,
-    }
-}
-
-fn is_offset(m: MonadicMode) -> bool
-    ensures { λ x. ⌜ x ≡ isStack m ⌝ }
-{
-    match m {
-        MonadicMode::WordAbsolute => false,
-        MonadicMode::WordStack => true,
-        MonadicMode::WordIndirect => false,
-        MonadicMode::WordImmediate => false,
-        MonadicMode::FlowAbsoluteIndirect => false,
-        MonadicMode::FlowStackIndirect => false,
-        MonadicMode::FlowRelative => false,
         MonadicMode::FlowAbsolute => false,
     }
 }
@@ -139,7 +124,7 @@ fn pop(r: &mut [u32; 17], v: u32, n: u32) -> bool
 fn catch(r: &mut [u32; 17], mode: MonadicMode, v: u32, n: u32) -> bool
     ensures { λ z. ⌜ (z ≡ true → ((q : Cache) → catchOf (cpu (now (r .entry)) q) mode v n ≡ done (cpu (now (r .exit)) q)) × ((q : Cache) → holdsStack (cpu (now (r .exit)) q) ≡ holdsStack (cpu (now (r .entry)) q))) × (z ≡ false → now (r .exit) ≡ now (r .entry)) ⌝ }
 {
-    if is_offset(mode) {
+    if is_stack(mode) {
         if cache_on(r) {
             if stack_address(r, v) <= r[4] {
                 advanced(r, n);
@@ -156,7 +141,7 @@ fn enter(m: &[u8], r: &mut [u32; 17], mode: MonadicMode, v: u32, n: u32) -> bool
 {
     let kept = *r;
     let a = stack_address(r, v) / 16 * 16;
-    if is_offset(mode) {
+    if is_stack(mode) {
         if cache_on(r) {
             if minus(r[4], a) <= 256 {
                 let x = check_store(m, r, a);

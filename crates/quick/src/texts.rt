@@ -1,22 +1,20 @@
 // The text at PC, by one walk where that does for all its parcels and sets no bit.
-use decoder::short::decode_short;
-use decoder::wide::decode_wide;
-use handler::quiet::quiet_place;
-use isa::Answer;
+use handler::quiet::fetch_place;
 use machine::status::is_user;
 use machine::status::is_virtual;
 use memory::loads::number2;
-use mmu::Kind;
+use plans::Plan;
+use plans::short::plan_short;
+use plans::wide::plan_wide;
 ghost use mathlib.Core.Path.{_≡_};
-ghost use mathlib.Core.Bool.{cond, false};
-ghost use lib.Dec.{eqb, ltb};
 ghost use lib.ListN.{length};
 ghost use Prim.Native.Nat.{_+_, _%_, _^_, _<_, _≤_};
 ghost use Rattle.mmu.specs.declared.Kind.the-variants as kind;
 ghost use Rattle.machine.specs.Status.{regime};
 ghost use Rattle.handler.specs.Quiet.{Quiet};
 ghost use Rattle.isa.specs.Decode.{decodeOf, cpuPrefix};
-ghost use Rattle.quick.specs.Performed.{parcelAt, textAt};
+ghost use Rattle.plans.specs.Plans.{Planned};
+ghost use Rattle.quick.specs.Performed.{parcelAt, textAt, lengthAt};
 
 // The place of the ten bytes from the address a, if they lie in one page and in memory; else 2^32.
 pub(crate) fn text_place(m: &[u8], r: &[u32; 17], a: u32) -> u64
@@ -24,7 +22,7 @@ pub(crate) fn text_place(m: &[u8], r: &[u32; 17], a: u32) -> u64
 {
     if a % 2 == 0 {
         if a % 0x1000 <= 0xFF6 {
-            let x = quiet_place(m, r[9], is_user(r), is_virtual(r), Kind::Fetch, a);
+            let x = fetch_place(m, r[9], is_user(r), is_virtual(r), a);
             if x < 0x1_0000_0000 {
                 if x as usize + 10 <= m.len() {
                     return x;
@@ -36,44 +34,36 @@ pub(crate) fn text_place(m: &[u8], r: &[u32; 17], a: u32) -> u64
 }
 
 // The parcel at a place in memory.
-fn parcel(m: &[u8], i: usize) -> u16
+pub(crate) fn parcel(m: &[u8], i: usize) -> u16
     requires { ⌜ i + 2 ≤ length (now m) ⌝ }
     ensures { λ x. ⌜ x ≡ parcelAt (now (m .entry)) i ⌝ }
 {
     (number2(m[i], m[i + 1]) % 0x1_0000) as u16
 }
 
-// How many parcels follow one whose top bit is 1.
-fn after(p: u16) -> usize
-    ensures { λ x. ⌜ x ≡ cond (ltb p 0xC000) 2 4 ⌝ }
+// The plan of the text there, whose first parcel is p.
+pub(crate) fn plan_at(m: &[u8], i: usize, p: u16) -> Plan
+    requires { ⌜ (i + 10 ≤ length (now m)) × (p ≡ parcelAt (now m) i) × (p ≡ cpuPrefix → ⊥) ⌝ }
+    ensures { λ x. ⌜ Planned x (lengthAt p) (decodeOf (textAt (now (m .entry)) i)) ⌝ }
 {
-    if p < 0xC000 { 2 } else { 4 }
-}
-
-// Whether a CPU prefix stands there.
-pub(crate) fn is_prefixed(m: &[u8], i: usize) -> bool
-    requires { ⌜ i + 10 ≤ length (now m) ⌝ }
-    ensures { λ x. ⌜ x ≡ eqb (parcelAt (now (m .entry)) i) cpuPrefix ⌝ }
-{
-    parcel(m, i) == 0x2C00
-}
-
-// What the decoder says of the text there.
-pub(crate) fn decode_at(m: &[u8], i: usize) -> Answer
-    requires { ⌜ (i + 10 ≤ length (now m)) × (eqb (parcelAt (now m) i) cpuPrefix ≡ false) ⌝ }
-    ensures { λ x. ⌜ x ≡ decodeOf (textAt (now (m .entry)) i) ⌝ }
-{
-    let p = parcel(m, i);
     if p < 0x8000 {
-        return decode_short(p);
+        return plan_short(p);
     }
-    decode_wide(
-        false,
-        after(p),
+    plan_wide(
         p,
         parcel(m, i + 2),
         parcel(m, i + 4),
         parcel(m, i + 6),
         parcel(m, i + 8),
     )
+}
+
+// How many parcels it has.
+pub(crate) fn length_at(p: u16) -> u32
+    ensures { λ x. ⌜ x ≡ lengthAt p ⌝ }
+{
+    if p < 0x8000 {
+        return 1;
+    }
+    if p < 0xC000 { 3 } else { 5 }
 }

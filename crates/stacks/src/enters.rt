@@ -12,6 +12,7 @@ use machine::status::is_virtual;
 use machine::status::sp_current;
 use memory::answers::low32;
 use moves::flushing::flush;
+use tables::legal::is_stack;
 use word::sums::minus;
 use word::sums::plus;
 ghost use mathlib.Core.Path.{_≡_};
@@ -19,7 +20,6 @@ ghost use Rattle.memory.specs.Answers.{answerOf};
 ghost use Rattle.program.specs.Access.{gave};
 ghost use Rattle.program.specs.Program.{interpret};
 ghost use Rattle.program.specs.Journal.{journaled, logging};
-ghost use Rattle.isa.specs.Legal.{isStack};
 ghost use Rattle.machine.specs.Status.{cpu};
 ghost use Rattle.access.specs.Code.{ended};
 ghost use Rattle.exec.specs.Stack.{enterPlain, enterUncached, enterEmpty, enterOffset, enterAt, clipped as clippedOf, enter as enterOf};
@@ -140,21 +140,6 @@ fn enter_offset(
         return x;
     }
     enter_clipped(m, places, words, q, r, target, old)
-}
-
-fn is_stack(mode: MonadicMode) -> bool
-    ensures { λ x. ⌜ x ≡ isStack mode ⌝ }
-{
-    match mode {
-        MonadicMode::WordAbsolute => false,
-        MonadicMode::WordStack => true,
-        MonadicMode::WordIndirect => false,
-        MonadicMode::WordImmediate => false,
-        MonadicMode::FlowAbsoluteIndirect => false,
-        MonadicMode::FlowStackIndirect => false,
-        MonadicMode::FlowRelative => false,
-        MonadicMode::FlowAbsolute => false,
-    }
 }
 
 fn enter_at(

@@ -164,7 +164,8 @@ pub fn legal(rule: Rule, s: Operand, d: Operand) -> bool
     }
 }
 
-fn is_stack(m: MonadicMode) -> bool
+// Whether an operand is a stack offset.
+pub fn is_stack(m: MonadicMode) -> bool
     ensures { λ r. ⌜ r ≡ isStack m ⌝ }
 {
     match m {

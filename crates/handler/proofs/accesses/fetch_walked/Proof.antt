@@ -3,11 +3,11 @@ use borrow.Author.Needs.{needs}
 use Rattle.handler.proofs.accesses.fetch_walked.Statement.{statement}
 use Rattle.handler.proofs.accesses.fetch_walked.Tie as tie
 
-mul-translate-fetch : tie.Need-mul-translate-fetch
-mul-translate-fetch c = search needs
+mul-translate : tie.Need-mul-translate
+mul-translate c = search needs
 
-translate-fetch-requires : tie.Need-translate-fetch-requires
-translate-fetch-requires c κs = search needs
+translate-requires : tie.Need-translate-requires
+translate-requires c κs = search needs
 
 enum-known-x : tie.Need-enum-known-x
 enum-known-x c = search needs
@@ -52,8 +52,8 @@ pub fetch-walked-spec : {M : Type 1} → statement M
 fetch-walked-spec =
     tie.close
     (tie.spec
-    mul-translate-fetch
-    translate-fetch-requires
+    mul-translate
+    translate-requires
     enum-known-x
     raised-requires
     enum-known-x-2

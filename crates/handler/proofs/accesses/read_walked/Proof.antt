@@ -3,8 +3,8 @@ use borrow.Author.Needs.{needs}
 use Rattle.handler.proofs.accesses.read_walked.Statement.{statement}
 use Rattle.handler.proofs.accesses.read_walked.Tie as tie
 
-translate-read-requires : tie.Need-translate-read-requires
-translate-read-requires c κs = search needs
+translate-requires : tie.Need-translate-requires
+translate-requires c κs = search needs
 
 enum-known-x : tie.Need-enum-known-x
 enum-known-x c = search needs
@@ -49,7 +49,7 @@ pub read-walked-spec : {M : Type 1} → statement M
 read-walked-spec =
     tie.close
     (tie.spec
-    translate-read-requires
+    translate-requires
     enum-known-x
     raised-requires
     enum-known-x-2

@@ -3,8 +3,8 @@ use borrow.Author.Needs.{needs}
 use Rattle.handler.proofs.accesses.write_walked.Statement.{statement}
 use Rattle.handler.proofs.accesses.write_walked.Tie as tie
 
-translate-write-requires : tie.Need-translate-write-requires
-translate-write-requires c κs = search needs
+translate-requires : tie.Need-translate-requires
+translate-requires c κs = search needs
 
 enum-known-x : tie.Need-enum-known-x
 enum-known-x c = search needs
@@ -49,7 +49,7 @@ pub write-walked-spec : {M : Type 1} → statement M
 write-walked-spec =
     tie.close
     (tie.spec
-    translate-write-requires
+    translate-requires
     enum-known-x
     raised-requires
     enum-known-x-2

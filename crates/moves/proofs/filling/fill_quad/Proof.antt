@@ -3,14 +3,14 @@ use borrow.Author.Needs.{needs}
 use Rattle.moves.proofs.filling.fill_quad.Statement.{statement}
 use Rattle.moves.proofs.filling.fill_quad.Tie as tie
 
-quad-place-requires : tie.Need-quad-place-requires
-quad-place-requires c κs = search needs
+fill-place-requires : tie.Need-fill-place-requires
+fill-place-requires c κs = search needs
 
 low32-requires : tie.Need-low32-requires
 low32-requires c κs = search needs
 
 fill-found-requires : tie.Need-fill-found-requires
-fill-found-requires c κs = quad-at _ _ _ _ _ _ _ (c .before .before .before .before .before .quad-place .ensures) (c .before .before .before .before .if2 .taken) (c .low32 .ensures)
+fill-found-requires c κs = quad-at _ _ _ _ _ _ _ (c .before .before .before .before .before .fill-place .ensures) (c .before .before .before .before .if2 .taken) (c .low32 .ensures)
 
 same-length : tie.Need-same-length
 same-length c = search needs
@@ -31,7 +31,7 @@ pub fill-quad-spec : {M : Type 1} → statement M
 fill-quad-spec =
     tie.close
     (tie.spec
-    quad-place-requires
+    fill-place-requires
     low32-requires
     fill-found-requires
     same-length

@@ -14,14 +14,14 @@ element-copy-out-stb c = search needs
 is-user-requires : tie.Need-is-user-requires
 is-user-requires c κs = search needs
 
-quad-place-requires : tie.Need-quad-place-requires
-quad-place-requires c κs = search needs
+flush-place-requires : tie.Need-flush-place-requires
+flush-place-requires c κs = search needs
 
 low32-requires : tie.Need-low32-requires
 low32-requires c κs = search needs
 
 flush-found-requires : tie.Need-flush-found-requires
-flush-found-requires c κs = quad-at _ _ _ _ _ _ _ (c .before .before .before .before .before .quad-place .ensures) (c .before .before .before .before .if2 .taken) (c .low32 .ensures)
+flush-found-requires c κs = quad-at _ _ _ _ _ _ _ (c .before .before .before .before .before .flush-place .ensures) (c .before .before .before .before .if2 .taken) (c .low32 .ensures)
 
 element-write-r : tie.Need-element-write-r
 element-write-r c = search needs
@@ -48,7 +48,7 @@ flush-quad-spec =
     is-virtual-requires
     element-copy-out-stb
     is-user-requires
-    quad-place-requires
+    flush-place-requires
     low32-requires
     flush-found-requires
     element-write-r

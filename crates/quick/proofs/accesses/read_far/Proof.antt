@@ -11,8 +11,8 @@ aligned-requires c κs = search needs
 returns : tie.Need-returns
 returns c = λ h. absurd (omega (arith, h))
 
-element-copy-out-quiet-place : tie.Need-element-copy-out-quiet-place
-element-copy-out-quiet-place c = search needs
+element-copy-out-read-place : tie.Need-element-copy-out-read-place
+element-copy-out-read-place c = search needs
 
 is-user-requires : tie.Need-is-user-requires
 is-user-requires c κs = search needs
@@ -20,8 +20,8 @@ is-user-requires c κs = search needs
 is-virtual-requires : tie.Need-is-virtual-requires
 is-virtual-requires c κs = search needs
 
-quiet-place-requires : tie.Need-quiet-place-requires
-quiet-place-requires c κs = search needs
+read-place-requires : tie.Need-read-place-requires
+read-place-requires c κs = search needs
 
 returns-2 : tie.Need-returns-2
 returns-2 c = λ h. absurd (omega (arith, h, c .if2 .taken))
@@ -33,7 +33,7 @@ load-requires : tie.Need-load-requires
 load-requires c κs = search needs
 
 returns-3 : tie.Need-returns-3
-returns-3 c = λ h. search (needs, far-read, passed, c .before .before .before .quiet-place .ensures (c .before .before .if2 .left))
+returns-3 c = λ h. search (needs, far-read, passed, c .before .before .before .read-place .ensures (c .before .before .if2 .left))
 
 pub read-far-spec : {M : Type 1} → statement M
 read-far-spec =
@@ -41,10 +41,10 @@ read-far-spec =
     (tie.spec
     aligned-requires
     returns
-    element-copy-out-quiet-place
+    element-copy-out-read-place
     is-user-requires
     is-virtual-requires
-    quiet-place-requires
+    read-place-requires
     returns-2
     low32-requires
     load-requires

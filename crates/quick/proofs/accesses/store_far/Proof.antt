@@ -11,8 +11,8 @@ aligned-requires c κs = search needs
 returns : tie.Need-returns
 returns c = (λ h. not-both h, λ h. refl)
 
-element-copy-out-quiet-place : tie.Need-element-copy-out-quiet-place
-element-copy-out-quiet-place c = search needs
+element-copy-out-write-place : tie.Need-element-copy-out-write-place
+element-copy-out-write-place c = search needs
 
 is-user-requires : tie.Need-is-user-requires
 is-user-requires c κs = search needs
@@ -20,8 +20,8 @@ is-user-requires c κs = search needs
 is-virtual-requires : tie.Need-is-virtual-requires
 is-virtual-requires c κs = search needs
 
-quiet-place-requires : tie.Need-quiet-place-requires
-quiet-place-requires c κs = search needs
+write-place-requires : tie.Need-write-place-requires
+write-place-requires c κs = search needs
 
 same-length : tie.Need-same-length
 same-length c = search needs
@@ -45,7 +45,7 @@ same-length-3 : tie.Need-same-length-3
 same-length-3 c = search needs
 
 returns-4 : tie.Need-returns-4
-returns-4 c = (λ h. far-stored (c .before .before .before .before .before .before .before .before .before .before .before .before .before .before .before .args .r .now) _ _ _ (c .before .before .before .before .before .before .before .before .before .is-user .ensures) (c .before .before .before .before .before .before .before .before .is-virtual .ensures) refl _ _ _ (search needs) _ (c .before .before .before .before .before .before .before .before .before .before .before .before .before .aligned .ensures) (passed _ (c .before .before .before .before .before .before .before .before .before .before .before .before .if1 .left)) _ (c .before .before .before .before .before .before .if2 .left) _ (c .before .before .before .before .low32 .ensures) _ (c .if3 .left) (c .before .before .before .before .before .before .before .quiet-place .ensures (c .before .before .before .before .before .before .if2 .left)) _ _ (c .before .before .before .store .ensures), λ h. not-both (sym h))
+returns-4 c = (λ h. far-stored (c .before .before .before .before .before .before .before .before .before .before .before .before .before .before .before .args .r .now) _ _ _ (c .before .before .before .before .before .before .before .before .before .is-user .ensures) (c .before .before .before .before .before .before .before .before .is-virtual .ensures) refl _ _ _ (search needs) _ (c .before .before .before .before .before .before .before .before .before .before .before .before .before .aligned .ensures) (passed _ (c .before .before .before .before .before .before .before .before .before .before .before .before .if1 .left)) _ (c .before .before .before .before .before .before .if2 .left) _ (c .before .before .before .before .low32 .ensures) _ (c .if3 .left) (c .before .before .before .before .before .before .before .write-place .ensures (c .before .before .before .before .before .before .if2 .left)) _ _ (c .before .before .before .store .ensures), λ h. not-both (sym h))
 
 pub store-far-spec : {M : Type 1} → statement M
 store-far-spec =
@@ -53,10 +53,10 @@ store-far-spec =
     (tie.spec
     aligned-requires
     returns
-    element-copy-out-quiet-place
+    element-copy-out-write-place
     is-user-requires
     is-virtual-requires
-    quiet-place-requires
+    write-place-requires
     same-length
     returns-2
     low32-requires

@@ -5,8 +5,8 @@ use borrow.Author.Needs.{needs}
 use Rattle.quick.proofs.flow.catch.Statement.{statement}
 use Rattle.quick.proofs.flow.catch.Tie as tie
 
-is-offset-requires : tie.Need-is-offset-requires
-is-offset-requires c κs = search needs
+is-stack-requires : tie.Need-is-stack-requires
+is-stack-requires c κs = search needs
 
 cache-on-requires : tie.Need-cache-on-requires
 cache-on-requires c κs = search needs
@@ -21,7 +21,7 @@ advanced-requires : tie.Need-advanced-requires
 advanced-requires c κs = search needs
 
 returns : tie.Need-returns
-returns c = (λ h. catch-goes (c .before .before .before .before .before .before .before .before .before .before .before .args .r .now) (c .before .before .before .before .before .before .before .before .before .before .before .args .mode) (c .before .before .before .before .before .before .before .before .before .before .before .args .v) (c .before .before .before .before .before .before .before .before .before .before .before .args .n) (c .before .before .before .before .before .before .before .before .before .before .is-offset .result) (c .before .before .before .before .before .before .before .before .before .before .is-offset .ensures) (c .before .before .before .before .before .before .before .before .before .if1 .taken) (c .before .before .before .before .before .before .before .cache-on .result) (c .before .before .before .before .before .before .before .cache-on .ensures) (c .before .before .before .before .before .before .if2 .taken) _ (c .before .before .before .before .stack-address .result) (c .before .before .before .before .stack-address .ensures) (c .before .before .if3 .taken) (c .advanced .ensures), λ h. not-both (sym h))
+returns c = (λ h. catch-goes (c .before .before .before .before .before .before .before .before .before .before .before .args .r .now) (c .before .before .before .before .before .before .before .before .before .before .before .args .mode) (c .before .before .before .before .before .before .before .before .before .before .before .args .v) (c .before .before .before .before .before .before .before .before .before .before .before .args .n) (c .before .before .before .before .before .before .before .before .before .before .is-stack .result) (c .before .before .before .before .before .before .before .before .before .before .is-stack .ensures) (c .before .before .before .before .before .before .before .before .before .if1 .taken) (c .before .before .before .before .before .before .before .cache-on .result) (c .before .before .before .before .before .before .before .cache-on .ensures) (c .before .before .before .before .before .before .if2 .taken) _ (c .before .before .before .before .stack-address .result) (c .before .before .before .before .stack-address .ensures) (c .before .before .if3 .taken) (c .advanced .ensures), λ h. not-both (sym h))
 
 returns-2 : tie.Need-returns-2
 returns-2 c = (λ h. not-both h, λ h. refl)
@@ -36,7 +36,7 @@ pub catch-spec : {M : Type 1} → statement M
 catch-spec =
     tie.close
     (tie.spec
-    is-offset-requires
+    is-stack-requires
     cache-on-requires
     stack-address-requires
     element-copy-out-if3

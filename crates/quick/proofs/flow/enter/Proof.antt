@@ -12,8 +12,8 @@ stack-address-requires c κs = search needs
 mul-a : tie.Need-mul-a
 mul-a c = search needs
 
-is-offset-requires : tie.Need-is-offset-requires
-is-offset-requires c κs = search needs
+is-stack-requires : tie.Need-is-stack-requires
+is-stack-requires c κs = search needs
 
 cache-on-requires : tie.Need-cache-on-requires
 cache-on-requires c κs = search needs
@@ -46,7 +46,7 @@ stack-held-requires : tie.Need-stack-held-requires
 stack-held-requires c κs = search needs
 
 returns : tie.Need-returns
-returns c = (λ h. enter-gives (c .before .before .before .before .before .before .before .before .before .before .before .before .before .before .before .before .before .before .before .before .before .before .before .before .before .args .r .now) (c .before .before .before .before .before .before .before .before .before .before .before .before .before .before .before .before .before .before .before .before .before .before .before .before .before .args .mode) (c .before .before .before .before .before .before .before .before .before .before .before .before .before .before .before .before .before .before .before .before .before .before .before .before .before .args .v) (c .before .before .before .before .before .before .before .before .before .before .before .before .before .before .before .before .before .before .before .before .before .before .before .before .before .args .n) (c .before .before .before .before .before .before .before .before .before .before .before .before .before .before .before .before .before .before .before .before .is-offset .result) (c .before .before .before .before .before .before .before .before .before .before .before .before .before .before .before .before .before .before .before .before .is-offset .ensures) (c .before .before .before .before .before .before .before .before .before .before .before .before .before .before .before .before .before .before .before .if1 .taken) (c .before .before .before .before .before .before .before .before .before .before .before .before .before .before .before .before .before .cache-on .result) (c .before .before .before .before .before .before .before .before .before .before .before .before .before .before .before .before .before .cache-on .ensures) (c .before .before .before .before .before .before .before .before .before .before .before .before .before .before .before .before .if2 .taken) _ (ap (λ (z : ℕ). z / 16 * 16) (c .before .before .before .before .before .before .before .before .before .before .before .before .before .before .before .before .before .before .before .before .before .stack-address .ensures)) (c .before .before .before .before .before .before .before .before .before .before .before .before .before .before .minus .result) (c .before .before .before .before .before .before .before .before .before .before .before .before .before .before .minus .ensures) (c .before .before .before .before .before .before .before .before .before .before .before .before .before .if3 .taken) (c .before .before .before .before .before .before .before .before .before .before .before .before .before .before .before .before .before .before .before .before .before .before .before .before .before .args .m .now) (c .before .before .before .before .before .before .before .before .before .before .before .check-store .result) (c .before .before .before .before .before .before .before .before .before .before .before .check-store .ensures) (c .before .before .before .before .before .before .before .before .before .before .if4 .taken) _ (c .before .before .before .before .before .before .before .before .with-csp .ensures) _ _ (c .before .before .before .before .before .before .with-guard .ensures) (c .before .before .before .before .advanced .ensures) (c .before .stack-held .result) (c .before .stack-held .ensures) (c .if5 .taken), λ h. not-both (sym h))
+returns c = (λ h. enter-gives (c .before .before .before .before .before .before .before .before .before .before .before .before .before .before .before .before .before .before .before .before .before .before .before .before .before .args .r .now) (c .before .before .before .before .before .before .before .before .before .before .before .before .before .before .before .before .before .before .before .before .before .before .before .before .before .args .mode) (c .before .before .before .before .before .before .before .before .before .before .before .before .before .before .before .before .before .before .before .before .before .before .before .before .before .args .v) (c .before .before .before .before .before .before .before .before .before .before .before .before .before .before .before .before .before .before .before .before .before .before .before .before .before .args .n) (c .before .before .before .before .before .before .before .before .before .before .before .before .before .before .before .before .before .before .before .before .is-stack .result) (c .before .before .before .before .before .before .before .before .before .before .before .before .before .before .before .before .before .before .before .before .is-stack .ensures) (c .before .before .before .before .before .before .before .before .before .before .before .before .before .before .before .before .before .before .before .if1 .taken) (c .before .before .before .before .before .before .before .before .before .before .before .before .before .before .before .before .before .cache-on .result) (c .before .before .before .before .before .before .before .before .before .before .before .before .before .before .before .before .before .cache-on .ensures) (c .before .before .before .before .before .before .before .before .before .before .before .before .before .before .before .before .if2 .taken) _ (ap (λ (z : ℕ). z / 16 * 16) (c .before .before .before .before .before .before .before .before .before .before .before .before .before .before .before .before .before .before .before .before .before .stack-address .ensures)) (c .before .before .before .before .before .before .before .before .before .before .before .before .before .before .minus .result) (c .before .before .before .before .before .before .before .before .before .before .before .before .before .before .minus .ensures) (c .before .before .before .before .before .before .before .before .before .before .before .before .before .if3 .taken) (c .before .before .before .before .before .before .before .before .before .before .before .before .before .before .before .before .before .before .before .before .before .before .before .before .before .args .m .now) (c .before .before .before .before .before .before .before .before .before .before .before .check-store .result) (c .before .before .before .before .before .before .before .before .before .before .before .check-store .ensures) (c .before .before .before .before .before .before .before .before .before .before .if4 .taken) _ (c .before .before .before .before .before .before .before .before .with-csp .ensures) _ _ (c .before .before .before .before .before .before .with-guard .ensures) (c .before .before .before .before .advanced .ensures) (c .before .stack-held .result) (c .before .stack-held .ensures) (c .if5 .taken), λ h. not-both (sym h))
 
 returns-2 : tie.Need-returns-2
 returns-2 c = (λ h. not-both h, λ h. refl)
@@ -69,7 +69,7 @@ enter-spec =
     (tie.spec
     stack-address-requires
     mul-a
-    is-offset-requires
+    is-stack-requires
     cache-on-requires
     element-copy-out-minus
     minus-requires

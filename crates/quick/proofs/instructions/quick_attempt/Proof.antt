@@ -1,6 +1,7 @@
 use Rattle.quick.proofs.InstructionLaws.{performed}
 use Rattle.quick.proofs.GiveLaws.{not-both}
-use mathlib.Core.Path.{refl, sym, _∙_}
+use native.Mathlib.Omega.{arith}
+use mathlib.Core.Path.{refl}
 use borrow.Author.Needs.{needs}
 use Rattle.quick.proofs.instructions.quick_attempt.Statement.{statement}
 use Rattle.quick.proofs.instructions.quick_attempt.Tie as tie
@@ -17,8 +18,8 @@ same-length c = search needs
 returns : tie.Need-returns
 returns c = (λ h. not-both h, λ h. (refl, refl, refl))
 
-is-prefixed-requires : tie.Need-is-prefixed-requires
-is-prefixed-requires c κs = c .before .before .text-place .ensures (c .before .if1 .left) .4
+parcel-requires : tie.Need-parcel-requires
+parcel-requires c κs = omega (arith, c .before .before .text-place .ensures (c .before .if1 .left) .4)
 
 same-length-2 : tie.Need-same-length-2
 same-length-2 c = search needs
@@ -26,17 +27,20 @@ same-length-2 c = search needs
 returns-2 : tie.Need-returns-2
 returns-2 c = (λ h. not-both h, λ h. (refl, refl, refl))
 
-decode-at-requires : tie.Need-decode-at-requires
-decode-at-requires c κs = (c .before .before .before .before .before .text-place .ensures (c .before .before .before .before .if1 .left) .4, sym (c .before .before .is-prefixed .ensures) ∙ c .before .if2 .left)
+plan-at-requires : tie.Need-plan-at-requires
+plan-at-requires c κs = (c .before .before .before .before .before .text-place .ensures (c .before .before .before .before .if1 .left) .4, c .before .before .parcel .ensures, c .before .if2 .left)
 
-quick-answer-requires : tie.Need-quick-answer-requires
-quick-answer-requires c κs = search needs
+length-at-requires : tie.Need-length-at-requires
+length-at-requires c κs = search needs
+
+perform-requires : tie.Need-perform-requires
+perform-requires c κs = search needs
 
 same-length-3 : tie.Need-same-length-3
 same-length-3 c = search needs
 
 returns-3 : tie.Need-returns-3
-returns-3 c = (λ h. performed (c .before .before .before .before .before .before .before .before .before .before .before .before .before .before .before .before .before .args .r .now) _ (c .before .before .before .before .before .before .before .before .before .before .before .before .before .before .before .before .before .args .q .now) _ (c .before .before .before .before .before .before .before .before .before .before .before .before .before .before .before .before .before .args .m .now) _ _ (c .before .before .before .before .before .before .before .before .before .before .before .before .text-place .result) refl (c .before .before .before .before .before .before .before .before .before .before .before .before .text-place .ensures (c .before .before .before .before .before .before .before .before .before .before .before .if1 .left)) (c .before .before .before .before .before .before .before .before .before .is-prefixed .result) (c .before .before .before .before .before .before .before .before .before .is-prefixed .ensures) (c .before .before .before .before .before .before .before .before .if2 .left) (c .before .before .before .before .before .before .decode-at .result) (c .before .before .before .before .before .before .decode-at .ensures) (c .before .before .quick-answer .ensures .0 h), λ h. c .before .before .quick-answer .ensures .1 h)
+returns-3 c = (λ h. performed (c .before .before .before .before .before .before .before .before .before .before .before .before .before .before .before .before .before .before .args .r .now) _ (c .before .before .before .before .before .before .before .before .before .before .before .before .before .before .before .before .before .before .args .q .now) _ (c .before .before .before .before .before .before .before .before .before .before .before .before .before .before .before .before .before .before .args .m .now) _ _ (c .before .before .before .before .before .before .before .before .before .before .before .before .before .text-place .result) refl (c .before .before .before .before .before .before .before .before .before .before .before .before .before .text-place .ensures (c .before .before .before .before .before .before .before .before .before .before .before .before .if1 .left)) (c .before .before .before .before .before .before .before .before .before .before .parcel .result) (c .before .before .before .before .before .before .before .before .before .before .parcel .ensures) (c .before .before .before .before .before .before .before .before .before .if2 .left) (c .before .before .before .before .before .before .before .plan-at .result) (c .before .before .before .before .before .before .before .plan-at .ensures) (c .before .before .before .length-at .result) (c .before .before .before .length-at .ensures) (c .before .before .perform .ensures .0 h), λ h. c .before .before .perform .ensures .1 h)
 
 pub quick-attempt-spec : {M : Type 1} → statement M
 quick-attempt-spec =
@@ -46,10 +50,11 @@ quick-attempt-spec =
     text-place-requires
     same-length
     returns
-    is-prefixed-requires
+    parcel-requires
     same-length-2
     returns-2
-    decode-at-requires
-    quick-answer-requires
+    plan-at-requires
+    length-at-requires
+    perform-requires
     same-length-3
     returns-3)

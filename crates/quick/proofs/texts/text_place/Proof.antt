@@ -5,8 +5,8 @@ use borrow.Author.Needs.{needs}
 use Rattle.quick.proofs.texts.text_place.Statement.{statement}
 use Rattle.quick.proofs.texts.text_place.Tie as tie
 
-element-copy-out-quiet-place : tie.Need-element-copy-out-quiet-place
-element-copy-out-quiet-place c = search needs
+element-copy-out-fetch-place : tie.Need-element-copy-out-fetch-place
+element-copy-out-fetch-place c = search needs
 
 is-user-requires : tie.Need-is-user-requires
 is-user-requires c κs = search needs
@@ -14,14 +14,14 @@ is-user-requires c κs = search needs
 is-virtual-requires : tie.Need-is-virtual-requires
 is-virtual-requires c κs = search needs
 
-quiet-place-requires : tie.Need-quiet-place-requires
-quiet-place-requires c κs = search needs
+fetch-place-requires : tie.Need-fetch-place-requires
+fetch-place-requires c κs = search needs
 
 add-if4 : tie.Need-add-if4
 add-if4 c = search needs
 
 returns : tie.Need-returns
-returns c = λ h. (quiet-here (c .before .before .before .before .before .before .before .before .before .args .r .now) _ _ _ (c .before .before .before .before .is-user .ensures) (c .before .before .before .is-virtual .ensures) refl _ _ _ (c .before .before .quiet-place .ensures (c .before .if3 .taken)), c .before .before .before .before .before .before .before .if1 .taken, omega (arith, c .before .before .before .before .before .before .if2 .taken), search needs, c .if4 .taken)
+returns c = λ h. (quiet-here (c .before .before .before .before .before .before .before .before .before .args .r .now) _ _ _ (c .before .before .before .before .is-user .ensures) (c .before .before .before .is-virtual .ensures) refl _ _ _ (c .before .before .fetch-place .ensures (c .before .if3 .taken)), c .before .before .before .before .before .before .before .if1 .taken, omega (arith, c .before .before .before .before .before .before .if2 .taken), search needs, c .if4 .taken)
 
 returns-2 : tie.Need-returns-2
 returns-2 c = λ h. absurd (omega (arith, h))
@@ -39,10 +39,10 @@ pub text-place-spec : {M : Type 1} → statement M
 text-place-spec =
     tie.close
     (tie.spec
-    element-copy-out-quiet-place
+    element-copy-out-fetch-place
     is-user-requires
     is-virtual-requires
-    quiet-place-requires
+    fetch-place-requires
     add-if4
     returns
     returns-2

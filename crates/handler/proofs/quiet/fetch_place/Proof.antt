@@ -1,0 +1,19 @@
+use Rattle.handler.proofs.QuietLaws.{quiet-translated, quiet-physical}
+use borrow.Author.Needs.{needs}
+use Rattle.handler.proofs.quiet.fetch_place.Statement.{statement}
+use Rattle.handler.proofs.quiet.fetch_place.Tie as tie
+
+translate-fetch-requires : tie.Need-translate-fetch-requires
+translate-fetch-requires c κs = search needs
+
+settled-requires : tie.Need-settled-requires
+settled-requires c κs = search needs
+
+returns : tie.Need-returns
+returns c = search (needs, quiet-translated)
+
+returns-2 : tie.Need-returns-2
+returns-2 c = λ h. quiet-physical _ _ _ _ _ _ (c .if1 .left)
+
+pub fetch-place-spec : {M : Type 1} → statement M
+fetch-place-spec = tie.close (tie.spec translate-fetch-requires settled-requires returns returns-2)

@@ -1,0 +1,57 @@
+// One parcel.
+use crate::Plan;
+use bits::field;
+use decoder::fields::destination_value;
+use decoder::fields::source_value;
+use decoder::short::find_entry;
+use isa::FieldMode;
+use isa::ShortEntry;
+use isa::ShortRow;
+use isa::Wide;
+use rows::ShortForm;
+use rows::forms::short_form;
+use tables::parcel::find_short;
+ghost use mathlib.Core.Path.{_≡_};
+ghost use mathlib.Core.Bool.{true};
+ghost use Rattle.isa.specs.declared.ShortEntry.the-variants as entry;
+ghost use Rattle.isa.specs.Decode.{shortAnswer, decodeShort};
+ghost use Rattle.rows.specs.Rows.{formed};
+ghost use Rattle.plans.specs.Plans.{isPlan, normalOf, Planned};
+
+// s and d are the values of its fields.
+fn plan_form(form: ShortForm, s: u32, d: u32) -> Plan
+    ensures { λ x. ⌜ (isPlan x ≡ true → normalOf x ≡ formed form s d) ⌝ }
+{
+    match form {
+        ShortForm::Two(t, a, b) => Plan::Two(Wide::Five, t, a, s, b, d),
+        ShortForm::One(o, mode) => Plan::One(o, mode, s),
+        ShortForm::Zero(_) => Plan::Other,
+    }
+}
+
+fn plan_row(row: ShortRow, s: FieldMode, d: FieldMode, p: u16) -> Plan
+    ensures { λ x. ⌜ Planned x 1 (shortAnswer (entry.Row row s d) p) ⌝ }
+{
+    plan_form(short_form(row), source_value(s, p), destination_value(d, p))
+}
+
+fn plan_entry(e: ShortEntry, p: u16) -> Plan
+    ensures { λ x. ⌜ Planned x 1 (shortAnswer e p) ⌝ }
+{
+    match e {
+        ShortEntry::Row(row, s, d) => plan_row(row, s, d, p),
+        ShortEntry::Stack => Plan::Other,
+        ShortEntry::Niladic => Plan::Other,
+        ShortEntry::Prefix => Plan::Other,
+        ShortEntry::Unimplemented => Plan::Other,
+        ShortEntry::Trap => Plan::Other,
+        ShortEntry::Unlisted => Plan::Other,
+    }
+}
+
+// The plan of a parcel whose top bit is 0.
+pub fn plan_short(p: u16) -> Plan
+    ensures { λ x. ⌜ Planned x 1 (decodeShort p) ⌝ }
+{
+    plan_entry(find_entry(find_short(field(p as u32, 10, 5)), p), p)
+}
