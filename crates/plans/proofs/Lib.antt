@@ -1,1 +1,2 @@
-pub mod PlanLaws
+mod PlanLaws
+pub mod AnswerLaws

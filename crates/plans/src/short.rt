@@ -12,15 +12,14 @@ use rows::ShortForm;
 use rows::forms::short_form;
 use tables::parcel::find_short;
 ghost use mathlib.Core.Path.{_≡_};
-ghost use mathlib.Core.Bool.{true};
 ghost use Rattle.isa.specs.declared.ShortEntry.the-variants as entry;
 ghost use Rattle.isa.specs.Decode.{shortAnswer, decodeShort};
 ghost use Rattle.rows.specs.Rows.{formed};
-ghost use Rattle.plans.specs.Plans.{isPlan, normalOf, Planned};
+ghost use Rattle.plans.specs.Plans.{planned, planOf};
 
 // s and d are the values of its fields.
 fn plan_form(form: ShortForm, s: u32, d: u32) -> Plan
-    ensures { λ x. ⌜ (isPlan x ≡ true → normalOf x ≡ formed form s d) ⌝ }
+    ensures { λ x. ⌜ x ≡ planned (formed form s d) ⌝ }
 {
     match form {
         ShortForm::Two(t, a, b) => Plan::Two(Wide::Five, t, a, s, b, d),
@@ -30,13 +29,13 @@ fn plan_form(form: ShortForm, s: u32, d: u32) -> Plan
 }
 
 fn plan_row(row: ShortRow, s: FieldMode, d: FieldMode, p: u16) -> Plan
-    ensures { λ x. ⌜ Planned x 1 (shortAnswer (entry.Row row s d) p) ⌝ }
+    ensures { λ x. ⌜ x ≡ planOf (shortAnswer (entry.Row row s d) p) ⌝ }
 {
     plan_form(short_form(row), source_value(s, p), destination_value(d, p))
 }
 
 fn plan_entry(e: ShortEntry, p: u16) -> Plan
-    ensures { λ x. ⌜ Planned x 1 (shortAnswer e p) ⌝ }
+    ensures { λ x. ⌜ x ≡ planOf (shortAnswer e p) ⌝ }
 {
     match e {
         ShortEntry::Row(row, s, d) => plan_row(row, s, d, p),
@@ -51,7 +50,7 @@ fn plan_entry(e: ShortEntry, p: u16) -> Plan
 
 // The plan of a parcel whose top bit is 0.
 pub fn plan_short(p: u16) -> Plan
-    ensures { λ x. ⌜ Planned x 1 (decodeShort p) ⌝ }
+    ensures { λ x. ⌜ x ≡ planOf (decodeShort p) ⌝ }
 {
     plan_entry(find_entry(find_short(field(p as u32, 10, 5)), p), p)
 }

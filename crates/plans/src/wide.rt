@@ -10,43 +10,57 @@ use decoder::wide::is_monadic;
 use decoder::wide::second;
 use isa::DyadicEntry;
 use isa::DyadicRow;
+use isa::Mode;
 use isa::ModeEntry;
 use isa::MonadicEntry;
 use isa::MonadicModeEntry;
 use isa::MonadicRow;
 use isa::MonadicRule;
+use isa::Operand;
 use isa::Rule;
 use isa::Wide;
 use rows::forms::monadic_of;
 use rows::forms::task_of;
+use tables::legal::legal;
 use tables::legal::monadic_legal;
 use tables::modes::find_general;
 use tables::modes::find_monadic_mode;
 use tables::wide::find_dyadic;
 use tables::wide::find_monadic;
 ghost use mathlib.Core.Path.{_≡_};
-ghost use mathlib.Core.Bool.{true, false};
+ghost use mathlib.Core.Bool.{false};
 ghost use Rattle.isa.specs.declared.DyadicEntry.the-variants as entry;
-ghost use Rattle.isa.specs.declared.Rule.{Rule};
-ghost use Rattle.isa.specs.Encode.{wideLength};
-ghost use Rattle.isa.specs.Decode.{operandFound, bothFound, decodeDyadic, monadicFound, decodeMonadic, decodeWide};
+ghost use Rattle.isa.specs.declared.Operand.the-variants as operand;
+ghost use Rattle.isa.specs.Decode.{operandFound, dyadicAnswer, bothFound, decodeDyadic, monadicFound, decodeMonadic, decodeWide};
 ghost use Rattle.decoder.specs.Forms.{formOf, afterOf};
-ghost use Rattle.plans.specs.Plans.{Planned, anyTwo};
+ghost use Rattle.plans.specs.Plans.{planOf};
 
-// Two operands that are in memory or constants.
-fn plan_modes(wide: Wide, row: DyadicRow, s: ModeEntry, d: ModeEntry, x: u32, y: u32) -> Plan
-    ensures { λ z. ⌜ ((u : Rule) → anyTwo u ≡ true → Planned z (wideLength wide) (bothFound (entry.Row row u) wide false (operandFound wide s x) (operandFound wide d y))) ⌝ }
+fn plan_operands(wide: Wide, row: DyadicRow, rule: Rule, a: Mode, v: u32, b: Mode, w: u32) -> Plan
+    ensures { λ z. ⌜ z ≡ planOf (dyadicAnswer (entry.Row row rule) wide false (operand.General a v) (operand.General b w)) ⌝ }
+{
+    if legal(rule, Operand::General(a, v), Operand::General(b, w)) {
+        return Plan::Two(wide, task_of(row), a, v, b, w);
+    }
+    Plan::Other
+}
+
+// By the modes of both; x and y are the operand fields.
+fn plan_modes(
+    wide: Wide,
+    row: DyadicRow,
+    rule: Rule,
+    s: ModeEntry,
+    d: ModeEntry,
+    x: u32,
+    y: u32,
+) -> Plan
+    ensures { λ z. ⌜ z ≡ planOf (bothFound (entry.Row row rule) wide false (operandFound wide s x) (operandFound wide d y)) ⌝ }
 {
     match s {
         ModeEntry::General(a) => match d {
-            ModeEntry::General(b) => Plan::Two(
-                wide,
-                task_of(row),
-                a,
-                value(wide, a, x),
-                b,
-                value(wide, b, y),
-            ),
+            ModeEntry::General(b) => {
+                plan_operands(wide, row, rule, a, value(wide, a, x), b, value(wide, b, y))
+            }
             ModeEntry::Register => Plan::Other,
             ModeEntry::Unlisted => Plan::Other,
         },
@@ -55,35 +69,18 @@ fn plan_modes(wide: Wide, row: DyadicRow, s: ModeEntry, d: ModeEntry, x: u32, y:
     }
 }
 
-// Whether any two such operands are legal.
-fn takes_any(rule: Rule) -> bool
-    ensures { λ z. ⌜ z ≡ anyTwo rule ⌝ }
-{
-    match rule {
-        Rule::OneRegister => true,
-        Rule::AnyTwo => true,
-        Rule::Address => false,
-        Rule::Multiple => false,
-    }
-}
-
 fn plan_entry(e: DyadicEntry, wide: Wide, s: ModeEntry, d: ModeEntry, x: u32, y: u32) -> Plan
-    ensures { λ z. ⌜ Planned z (wideLength wide) (bothFound e wide false (operandFound wide s x) (operandFound wide d y)) ⌝ }
+    ensures { λ z. ⌜ z ≡ planOf (bothFound e wide false (operandFound wide s x) (operandFound wide d y)) ⌝ }
 {
     match e {
-        DyadicEntry::Row(row, rule) => {
-            if takes_any(rule) {
-                return plan_modes(wide, row, s, d, x, y);
-            }
-            Plan::Other
-        }
+        DyadicEntry::Row(row, rule) => plan_modes(wide, row, rule, s, d, x, y),
         DyadicEntry::Unimplemented => Plan::Other,
         DyadicEntry::Unlisted => Plan::Other,
     }
 }
 
 fn plan_dyadic(wide: Wide, p: u16, x: u32, y: u32) -> Plan
-    ensures { λ z. ⌜ Planned z (wideLength wide) (decodeDyadic wide false p x y) ⌝ }
+    ensures { λ z. ⌜ z ≡ planOf (decodeDyadic wide false p x y) ⌝ }
 {
     let e = find_dyadic(field(p as u32, 8, 6));
     let s = find_general(field(p as u32, 4, 4));
@@ -92,7 +89,7 @@ fn plan_dyadic(wide: Wide, p: u16, x: u32, y: u32) -> Plan
 }
 
 fn plan_mode(row: MonadicRow, rule: MonadicRule, e: MonadicModeEntry, v: u32) -> Plan
-    ensures { λ z. ⌜ Planned z 3 (monadicFound row rule false e v) ⌝ }
+    ensures { λ z. ⌜ z ≡ planOf (monadicFound row rule false e v) ⌝ }
 {
     match e {
         MonadicModeEntry::Is(mode) => {
@@ -106,7 +103,7 @@ fn plan_mode(row: MonadicRow, rule: MonadicRule, e: MonadicModeEntry, v: u32) ->
 }
 
 fn plan_monadic(p: u16, v: u32) -> Plan
-    ensures { λ z. ⌜ Planned z 3 (decodeMonadic false p v) ⌝ }
+    ensures { λ z. ⌜ z ≡ planOf (decodeMonadic false p v) ⌝ }
 {
     match find_monadic(low(p as u32, 4)) {
         MonadicEntry::Row(row, rule) => {
@@ -119,7 +116,7 @@ fn plan_monadic(p: u16, v: u32) -> Plan
 
 // The plan of a parcel p whose top bit is 1 and the four after it, of which three parcels call for two.
 pub fn plan_wide(p: u16, a: u16, b: u16, c: u16, d: u16) -> Plan
-    ensures { λ z. ⌜ Planned z (wideLength (formOf p)) (decodeWide false (afterOf (formOf p)) p a b c d) ⌝ }
+    ensures { λ z. ⌜ z ≡ planOf (decodeWide false (afterOf (formOf p)) p a b c d) ⌝ }
 {
     let wide = find_form(p);
     if is_monadic(wide, p) {

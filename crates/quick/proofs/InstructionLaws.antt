@@ -1,7 +1,7 @@
 -- An instruction performed by its plan, and the one at PC.
 -- Assumes nothing.
 use Prim.Native.Nat.{ℕ, _+_, _%_, _^_, _<_, _≤_}
-use mathlib.Core.Path.{_≡_, refl, sym, ap, _∙_}
+use mathlib.Core.Path.{_≡_, refl, sym, ap, subst, _∙_}
 use mathlib.Core.Bool.{true, false}
 use lib.ListN.{length}
 use borrow.Author.Tests.{ne-eqb}
@@ -12,6 +12,7 @@ use Rattle.isa.specs.declared.Wide.{Wide}
 use Rattle.isa.specs.declared.Answer.{Answer}
 use Rattle.isa.specs.declared.Answer.the-variants.{Is}
 use Rattle.isa.specs.declared.Instruction.{Instruction}
+use Rattle.isa.specs.Encode.{lengthOf}
 use Rattle.isa.specs.Decode.{decodeOf, cpuPrefix}
 use Rattle.memory.specs.Bytes.{Memory}
 use Rattle.mmu.specs.declared.Kind.the-variants.{Fetch}
@@ -30,11 +31,12 @@ use Rattle.step.specs.Step.{met, meets, fetchInstruction, holdsStack}
 use Rattle.run.specs.Run.{isKcall}
 use Rattle.plans.specs.declared.Plan.{Plan}
 use Rattle.plans.specs.declared.Plan.the-variants.{Two, One}
-use Rattle.plans.specs.Plans.{normalOf, Does, Planned}
+use Rattle.plans.specs.Plans.{planOf, isPlan, normalOf}
+use Rattle.plans.proofs.AnswerLaws.{Does, Long, answer-does}
 use Rattle.quick.specs.Quick.{gives}
 use Rattle.quick.specs.Performed.{parcelAt, textAt, lengthAt, Went, Executed, Performed}
 use Rattle.quick.proofs.GiveLaws.{gives-then}
-use Rattle.quick.proofs.TextLaws.{text-quiet}
+use Rattle.quick.proofs.TextLaws.{text-quiet, text-long}
 
 -- ---- by the plan
 
@@ -57,19 +59,19 @@ instruction-fetched c m k i g e = gives-then (fetchText c) _ m m m (textAt m k) 
     decoded : (z : Cpu) (l : Memory) (a : Answer) (j : Instruction) → a ≡ Is j → interpret plain (ret (met z a)) l ≡ gave (ok (meets j)) l
     decoded z l a j f = rw f refl
 
-module _ (c d : Cpu) (m n : Memory) (p : Plan) (l : ℕ) (a : Answer) (g : Does (normalOf p) l a) (x : Executed p l c m d n) where
+module _ (c d : Cpu) (m n : Memory) (p : Plan) (l : ℕ) (a : Answer) (g : Does (normalOf p) a) (long : lengthOf (g .instruction) ≡ l) (x : Executed p l c m d n) where
   went : Went (g .instruction) c m d n
   unfolding execute
-  went = record { executed = rw (g .long, g .does) (x .executed); free = rw (g .does) (x .free); held = x .held }
+  went = record { executed = rw (long, g .does) (x .executed); free = rw (g .does) (x .free); held = x .held }
 
 pub performed : (b e : Bank) (q s : Cache) (m n : Memory) (a k : ℕ) → a ≡ word b pc → Quiet (regime b) Fetch a m k × (a % 2 ≡ 0) × (a % 0x1000 + 10 ≤ 0x1000) × (a < 2 ^ 32) × (k + 10 ≤ length m)
-    → (f : ℕ) → f ≡ parcelAt m k → (f ≡ cpuPrefix → ⊥) → (p : Plan) → Planned p (lengthAt f) (decodeOf (textAt m k)) → (l : ℕ) → l ≡ lengthAt f → Executed p l (cpu b q) m (cpu e s) n → Performed (cpu b q) m (cpu e s) n
-performed b e q s m n a k ea h f ef bare p g l el x =
+    → (f : ℕ) → f ≡ parcelAt m k → (f ≡ cpuPrefix → ⊥) → (p : Plan) → p ≡ planOf (decodeOf (textAt m k)) → (l : ℕ) → l ≡ lengthAt f → Executed p l (cpu b q) m (cpu e s) n → Performed (cpu b q) m (cpu e s) n
+performed b e q s m n a k ea h f ef bare p ep l el x =
     record {
       instruction = does .instruction;
       fetched = instruction-fetched (cpu b q) m k (does .instruction) (text-quiet b q m a k ea (h .0) (h .1) (h .2) (h .3) (h .4) (rw (← ef) (ne-eqb f cpuPrefix bare))) (does .is);
-      went = went (cpu b q) (cpu e s) m n p l (decodeOf (textAt m k)) does x;
+      went = went (cpu b q) (cpu e s) m n p l (decodeOf (textAt m k)) does (subst (Long (lengthAt f)) (does .is) (text-long m k f ef bare) ∙ sym el) x;
     }
   where
-    does : Does (normalOf p) l (decodeOf (textAt m k))
-    does = rw el (g (x .planned))
+    does : Does (normalOf p) (decodeOf (textAt m k))
+    does = rw ep (answer-does (decodeOf (textAt m k)) (ap isPlan (sym ep) ∙ x .planned))

@@ -7,7 +7,8 @@ use mathlib.Core.List.{List, [], _∷_}
 use native.Mathlib.Omega.{arith}
 use lib.Dec.{eqb, ltb}
 use lib.ListN.{length, getD}
-use borrow.Author.Tests.{le-leb, lt-ltb, le-ltb, ne-eqb}
+use borrow.Author.Tests.{le-leb, lt-ltb, le-ltb, ltb-true, ltb-false, ne-eqb}
+use Rattle.laws.proofs.Cases.{by-test}
 use Rattle.word.specs.Sums.{plusOf}
 use Rattle.memory.specs.Answers.{got}
 use Rattle.memory.specs.Bytes.{Memory, byteAt, number, load}
@@ -26,8 +27,8 @@ use Rattle.isa.specs.declared.Wide.the-variants.{Three, Five}
 use Rattle.isa.specs.Encode.{wideLength}
 use Rattle.decoder.specs.Forms.{formOf, afterOf}
 use Rattle.plans.specs.declared.Plan.{Plan}
-use Rattle.plans.specs.Plans.{Planned}
-use Rattle.plans.proofs.PlanLaws.{planned-as}
+use Rattle.plans.specs.Plans.{planOf}
+use Rattle.plans.proofs.AnswerLaws.{Long, short-long, wide-long}
 use Rattle.quick.specs.Quick.{gives}
 use Rattle.quick.specs.Performed.{parcelAt, parcelsFrom, textAt, lengthAt}
 use Rattle.quick.proofs.GiveLaws.{gives-then, gives-done}
@@ -152,12 +153,17 @@ module _ (m : Memory) (k p : ℕ) (ep : p ≡ parcelAt m k) (unprefixed : p ≡ 
   after-is true = refl
   after-is false = refl
 
-  pub short-planned : (x : Plan) → p < 0x8000 → Planned x 1 (decodeShort p) → Planned x (lengthAt p) (decodeOf (textAt m k))
-  short-planned x h f = rw (lt-ltb p 0x8000 h) (planned-as x 1 (decodeShort p) (decodeOf (textAt m k)) (short-decoded h) f)
+  pub short-planned : (x : Plan) → p < 0x8000 → x ≡ planOf (decodeShort p) → x ≡ planOf (decodeOf (textAt m k))
+  short-planned x h g = g ∙ ap planOf (short-decoded h)
 
   pub wide-planned : (x : Plan) → 0x8000 ≤ p → (c d e f : ℕ) → c ≡ parcelAt m (k + 2) → d ≡ parcelAt m (k + 4) → e ≡ parcelAt m (k + 6) → f ≡ parcelAt m (k + 8)
-      → Planned x (wideLength (formOf p)) (decodeWide false (afterOf (formOf p)) p c d e f) → Planned x (lengthAt p) (decodeOf (textAt m k))
-  wide-planned x h c d e f ec ed ee ef g =
-      rw (le-ltb p 0x8000 h)
-      (planned-as x (wideLength (formOf p)) (decodeWide false (afterOf (formOf p)) p c d e f) (decodeOf (textAt m k))
-      (wide-decoded h (afterOf (formOf p)) c d e f (after-is (ltb p 0xC000)) ec ed ee ef) g)
+      → x ≡ planOf (decodeWide false (afterOf (formOf p)) p c d e f) → x ≡ planOf (decodeOf (textAt m k))
+  wide-planned x h c d e f ec ed ee ef g = g ∙ ap planOf (wide-decoded h (afterOf (formOf p)) c d e f (after-is (ltb p 0xC000)) ec ed ee ef)
+
+  -- an instruction is as long as its first parcel says
+  pub text-long : Long (lengthAt p) (decodeOf (textAt m k))
+  text-long =
+      by-test (ltb p 0x8000)
+      (λ e. rw e (subst (Long 1) (short-decoded (ltb-true p 0x8000 e)) (short-long p)))
+      (λ e. rw e (subst (Long (wideLength (formOf p))) (wide-decoded (ltb-false p 0x8000 e) (cond (ltb p 0xC000) 2 4) (parcelAt m (k + 2)) (parcelAt m (k + 4)) (parcelAt m (k + 6)) (parcelAt m (k + 8)) refl refl refl refl refl)
+      (wide-long (cond (ltb p 0xC000) 2 4) p (parcelAt m (k + 2)) (parcelAt m (k + 4)) (parcelAt m (k + 6)) (parcelAt m (k + 8)))))

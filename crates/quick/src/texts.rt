@@ -13,7 +13,7 @@ ghost use Rattle.mmu.specs.declared.Kind.the-variants as kind;
 ghost use Rattle.machine.specs.Status.{regime};
 ghost use Rattle.handler.specs.Quiet.{Quiet};
 ghost use Rattle.isa.specs.Decode.{decodeOf, cpuPrefix};
-ghost use Rattle.plans.specs.Plans.{Planned};
+ghost use Rattle.plans.specs.Plans.{planOf};
 ghost use Rattle.quick.specs.Performed.{parcelAt, textAt, lengthAt};
 
 // The place of the ten bytes from the address a, if they lie in one page and in memory; else 2^32.
@@ -44,7 +44,7 @@ pub(crate) fn parcel(m: &[u8], i: usize) -> u16
 // The plan of the text there, whose first parcel is p.
 pub(crate) fn plan_at(m: &[u8], i: usize, p: u16) -> Plan
     requires { ⌜ (i + 10 ≤ length (now m)) × (p ≡ parcelAt (now m) i) × (p ≡ cpuPrefix → ⊥) ⌝ }
-    ensures { λ x. ⌜ Planned x (lengthAt p) (decodeOf (textAt (now (m .entry)) i)) ⌝ }
+    ensures { λ x. ⌜ x ≡ planOf (decodeOf (textAt (now (m .entry)) i)) ⌝ }
 {
     if p < 0x8000 {
         return plan_short(p);

@@ -1,4 +1,4 @@
-use Rattle.plans.proofs.PlanLaws.{entry-planned, planned-other}
+use Rattle.plans.proofs.PlanLaws.{entry-planned}
 use borrow.Author.Needs.{needs}
 use Rattle.plans.proofs.short.plan_entry.Statement.{statement}
 use Rattle.plans.proofs.short.plan_entry.Tie as tie
@@ -31,22 +31,22 @@ returns : tie.Need-returns
 returns c = search (needs, entry-planned)
 
 returns-2 : tie.Need-returns-2
-returns-2 c = search (needs, planned-other)
+returns-2 c = search needs
 
 returns-3 : tie.Need-returns-3
-returns-3 c = search (needs, planned-other)
+returns-3 c = search needs
 
 returns-4 : tie.Need-returns-4
-returns-4 c = search (needs, planned-other)
+returns-4 c = search needs
 
 returns-5 : tie.Need-returns-5
-returns-5 c = search (needs, planned-other)
+returns-5 c = search needs
 
 returns-6 : tie.Need-returns-6
-returns-6 c = search (needs, planned-other)
+returns-6 c = search needs
 
 returns-7 : tie.Need-returns-7
-returns-7 c = search (needs, planned-other)
+returns-7 c = search needs
 
 pub plan-entry-spec : {M : Type 1} → statement M
 plan-entry-spec =

@@ -1,4 +1,4 @@
-use Rattle.plans.proofs.PlanLaws.{form-two, form-one, form-other}
+use Rattle.plans.proofs.PlanLaws.{form-two, form-one}
 use borrow.Author.Needs.{needs}
 use Rattle.plans.proofs.short.plan_form.Statement.{statement}
 use Rattle.plans.proofs.short.plan_form.Tie as tie
@@ -19,7 +19,7 @@ returns-2 : tie.Need-returns-2
 returns-2 c = search (needs, form-one)
 
 returns-3 : tie.Need-returns-3
-returns-3 c = search (needs, form-other)
+returns-3 c = search needs
 
 pub plan-form-spec : {M : Type 1} → statement M
 plan-form-spec =

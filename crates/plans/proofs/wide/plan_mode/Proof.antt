@@ -1,4 +1,4 @@
-use Rattle.plans.proofs.PlanLaws.{mode-planned, planned-other}
+use Rattle.plans.proofs.PlanLaws.{mode-legal, mode-illegal}
 use borrow.Author.Needs.{needs}
 use Rattle.plans.proofs.wide.plan_mode.Statement.{statement}
 use Rattle.plans.proofs.wide.plan_mode.Tie as tie
@@ -13,16 +13,16 @@ monadic-of-requires : tie.Need-monadic-of-requires
 monadic-of-requires c κs = search needs
 
 returns : tie.Need-returns
-returns c = search (needs, mode-planned)
+returns c = search (needs, mode-legal)
 
 enum-told : tie.Need-enum-told
 enum-told c = search needs
 
 returns-2 : tie.Need-returns-2
-returns-2 c = search (needs, planned-other)
+returns-2 c = search (needs, mode-illegal)
 
 returns-3 : tie.Need-returns-3
-returns-3 c = search (needs, planned-other)
+returns-3 c = search needs
 
 pub plan-mode-spec : {M : Type 1} → statement M
 plan-mode-spec =

@@ -1,5 +1,4 @@
-use mathlib.Core.Path.{refl}
-use Rattle.plans.proofs.PlanLaws.{modes-planned, planned-other}
+use Rattle.plans.proofs.PlanLaws.{modes-planned, second-register, second-unlisted, first-register, first-unlisted}
 use borrow.Author.Needs.{needs}
 use Rattle.plans.proofs.wide.plan_modes.Statement.{statement}
 use Rattle.plans.proofs.wide.plan_modes.Tie as tie
@@ -10,14 +9,14 @@ enum-known-s c = search needs
 enum-known-d : tie.Need-enum-known-d
 enum-known-d c = search needs
 
-task-of-requires : tie.Need-task-of-requires
-task-of-requires c κs = search needs
-
 value-requires : tie.Need-value-requires
 value-requires c κs = search needs
 
 value-requires-2 : tie.Need-value-requires-2
 value-requires-2 c κs = search needs
+
+plan-operands-requires : tie.Need-plan-operands-requires
+plan-operands-requires c κs = search needs
 
 enum-told : tie.Need-enum-told
 enum-told c = search needs
@@ -35,16 +34,16 @@ returns : tie.Need-returns
 returns c = search (needs, modes-planned)
 
 returns-2 : tie.Need-returns-2
-returns-2 c = λ u h. planned-other _ _ _ refl
+returns-2 c = search (needs, second-register)
 
 returns-3 : tie.Need-returns-3
-returns-3 c = λ u h. planned-other _ _ _ refl
+returns-3 c = search (needs, second-unlisted)
 
 returns-4 : tie.Need-returns-4
-returns-4 c = λ u h. planned-other _ _ _ refl
+returns-4 c = search (needs, first-register)
 
 returns-5 : tie.Need-returns-5
-returns-5 c = λ u h. planned-other _ _ _ refl
+returns-5 c = search (needs, first-unlisted)
 
 pub plan-modes-spec : {M : Type 1} → statement M
 plan-modes-spec =
@@ -52,9 +51,9 @@ plan-modes-spec =
     (tie.spec
     enum-known-s
     enum-known-d
-    task-of-requires
     value-requires
     value-requires-2
+    plan-operands-requires
     enum-told
     enum-told-2
     enum-told-3

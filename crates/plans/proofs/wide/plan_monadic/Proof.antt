@@ -1,4 +1,4 @@
-use Rattle.plans.proofs.PlanLaws.{monadic-planned, monadic-row, planned-other}
+use Rattle.plans.proofs.PlanLaws.{monadic-row, monadic-gap, monadic-unlisted}
 use borrow.Author.Needs.{needs}
 use Rattle.plans.proofs.wide.plan_monadic.Statement.{statement}
 use Rattle.plans.proofs.wide.plan_monadic.Tie as tie
@@ -28,13 +28,13 @@ enum-told-2 : tie.Need-enum-told-2
 enum-told-2 c = search needs
 
 returns : tie.Need-returns
-returns c = monadic-planned (c .plan-mode .result) (c .before .before .before .before .before .before .before .before .args .p) (c .before .before .before .before .before .before .before .before .args .v) _ _ _ (c .before .before .before .before .before .before .before .low .ensures) (c .before .before .before .before .before .before .find-monadic .ensures) (c .before .before .field .ensures) (monadic-row (c .plan-mode .result) _ _ _ _ _ _ (c .before .before .before .before .row .given .1) (c .before .find-monadic-mode .ensures) (c .plan-mode .ensures))
+returns c = search (needs, monadic-row)
 
 returns-2 : tie.Need-returns-2
-returns-2 c = search (needs, planned-other)
+returns-2 c = search (needs, monadic-gap)
 
 returns-3 : tie.Need-returns-3
-returns-3 c = search (needs, planned-other)
+returns-3 c = search (needs, monadic-unlisted)
 
 pub plan-monadic-spec : {M : Type 1} → statement M
 plan-monadic-spec =
