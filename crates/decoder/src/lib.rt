@@ -72,7 +72,7 @@ fn decode_rest(prefix: bool, t: Text) -> Answer
     }
 }
 
-// Parcels by value. A program that steps calls this at one place, so that it is inlined there.
+// Parcels by value, as a step has fetched them.
 pub fn decode_text(t: Text) -> Answer
     ensures { λ r. ⌜ r ≡ decodeOf t ⌝ }
 {
