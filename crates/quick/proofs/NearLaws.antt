@@ -1,7 +1,7 @@
 -- Words of the stack that the cache holds.
 -- Assumes nothing.
 use Prim.Native.Nat.{ℕ, _%_, _^_, _<_}
-use mathlib.Core.Path.{_≡_, refl, sym, ap, _∙_}
+use mathlib.Core.Path.{_≡_, refl, sym, ap, subst, _∙_}
 use mathlib.Core.Bool.{Bool, true, false, _&&_}
 use mathlib.Core.List.{[]}
 use native.Mathlib.Omega.{arith}
@@ -107,23 +107,17 @@ module _ (b : Bank) (q : Cache) (m : Mode) (v : ℕ) (w : Wide) where
 
 -- ---- the rest of a task: a is the address of the destination
 
-module _ (b : Bank) (q : Cache) (d a : ℕ) (k : Near b d a) (l : a < 2 ^ 32) (c : ℕ) (ec : c ≡ a % 2 ^ 32) (w : Wide) (x : ℕ) where
-  at : c ≡ a
-  at = let i : a % 2 ^ 32 ≡ a = omega arith in ec ∙ i
-
-  pub rest-move : (s : Cache) → s ≡ cacheWrite 4 q c x → rest (cpu b q) w Move (General StackWord d) x ≡ done (cpu b s)
+module _ (b : Bank) (q : Cache) (a : ℕ) (near : cached b a ≡ true) (whole : a % 4 ≡ 0) (w : Wide) (d : ℕ) (there : a ≡ stackAddress (cpu b []) d) (x : ℕ) where
+  pub rest-move : (s : Cache) → s ≡ cacheWrite 4 q a x → rest (cpu b q) w Move (General StackWord d) x ≡ done (cpu b s)
   unfolding locate located writePlace _>>=_ after onward
-  rest-move s es = rw (← k .0, word-written b q a (k .1) (k .2) x) (ap (λ (z : Cache). done (cpu b z)) (ap (λ (n : ℕ). cacheWrite 4 q n x) (sym at) ∙ sym es))
+  rest-move s es = rw (← there, word-written b q a near whole x) (ap (λ (z : Cache). done (cpu b z)) (sym es))
 
   -- y is the destination's word
-  module _ (y : ℕ) (ey : y ≡ cacheRead 4 q c) where
-    destination-is : cacheRead 4 q a ≡ y
-    destination-is = ap (cacheRead 4 q) (sym at) ∙ sym ey
-
+  module _ (y : ℕ) (ey : y ≡ cacheRead 4 q a) where
     pub rest-compare : (r : Relation) (t : Bool) → t ≡ related r x y → (e : Bank) → ((p : Cache) → cpu e p ≡ withFlag (cpu b p) t)
         → rest (cpu b q) w (Compare r) (General StackWord d) x ≡ done (cpu e q)
     unfolding locate located readPlace _>>=_ after onward
-    rest-compare r t et e f = rw (← k .0, word-read b q a (k .1) (k .2)) (ap (λ (c : Cpu). done c) (ap (λ (n : ℕ). withFlag (cpu b q) (related r x n)) destination-is ∙ ap (withFlag (cpu b q)) (sym et) ∙ sym (f q)))
+    rest-compare r t et e f = rw (← there, word-read b q a near whole) (ap (λ (c : Cpu). done c) (ap (λ (n : ℕ). withFlag (cpu b q) (related r x n)) (sym ey) ∙ ap (withFlag (cpu b q)) (sym et) ∙ sym (f q)))
 
     module _ (op : Operation) (g : Bool) (eg : g ≡ divides op) (z : Bool) (ez : z ≡ (g && eqb x 0)) (h : z ≡ false) (n : ℕ) (en : unpacked n ≡ operate op y x) (v : ℕ) (ev : v ≡ unpacked n .value)
         (e : Bank) (f : (p : Cache) → cpu e p ≡ withFlags (cpu b p) (unpacked n .carry) (unpacked n .overflow)) where
@@ -136,20 +130,20 @@ module _ (b : Bank) (q : Cache) (d a : ℕ) (k : Near b d a) (l : a < 2 ^ 32) (c
       value-is : operate op y x .value ≡ v
       value-is = ap (λ (r : Result). r .value) (sym en) ∙ sym ev
 
-      pub rest-compute : (s : Cache) → s ≡ cacheWrite 4 q c v → rest (cpu b q) w (Compute op) (General StackWord d) x ≡ done (cpu e s)
+      pub rest-compute : (s : Cache) → s ≡ cacheWrite 4 q a v → rest (cpu b q) w (Compute op) (General StackWord d) x ≡ done (cpu e s)
       unfolding locate located readPlace checkDivisor writePlace _>>=_ after onward
       rest-compute s es =
-          rw (← k .0, word-read b q a (k .1) (k .2), destination-is, no-fault, value-is, word-written b q a (k .1) (k .2) v)
-          (ap (λ (c : Cpu). done c) (ap (λ (p : Cache). withFlags (cpu b p) (operate op y x .carry) (operate op y x .overflow)) (ap (λ (i : ℕ). cacheWrite 4 q i v) (sym at) ∙ sym es) ∙ flagged-as s))
+          rw (← there, word-read b q a near whole, ← ey, no-fault, value-is, word-written b q a near whole v)
+          (ap (λ (c : Cpu). done c) (ap (λ (p : Cache). withFlags (cpu b p) (operate op y x .carry) (operate op y x .overflow)) (sym es) ∙ flagged-as s))
 
       pub rest-accumulate : (o : ℕ) → Near b 4 o → o < 2 ^ 32 → (i : ℕ) → i ≡ o % 2 ^ 32 → (s : Cache) → s ≡ cacheWrite 4 q i v → rest (cpu b q) w (Accumulate op) (General StackWord d) x ≡ done (cpu e s)
       unfolding locate located readPlace checkDivisor writeAccumulator _>>=_ after onward
       rest-accumulate o ko lo i ei s es =
-          rw (← k .0, word-read b q a (k .1) (k .2), destination-is, no-fault, value-is, ← ko .0, word-written b q o (ko .1) (ko .2) v)
-          (ap (λ (c : Cpu). done c) (ap (λ (p : Cache). withFlags (cpu b p) (operate op y x .carry) (operate op y x .overflow)) (ap (λ (j : ℕ). cacheWrite 4 q j v) (sym there) ∙ sym es) ∙ flagged-as s))
+          rw (← there, word-read b q a near whole, ← ey, no-fault, value-is, ← ko .0, word-written b q o (ko .1) (ko .2) v)
+          (ap (λ (c : Cpu). done c) (ap (λ (p : Cache). withFlags (cpu b p) (operate op y x .carry) (operate op y x .overflow)) (ap (λ (j : ℕ). cacheWrite 4 q j v) (sym at) ∙ sym es) ∙ flagged-as s))
         where
-          there : i ≡ o
-          there = let j : o % 2 ^ 32 ≡ o = omega arith in ei ∙ j
+          at : i ≡ o
+          at = let j : o % 2 ^ 32 ≡ o = omega arith in ei ∙ j
 
 -- ---- flags change no stack pointer
 
@@ -162,7 +156,11 @@ module _ (b e : Bank) where
 
 -- ---- a task by its case
 
-module _ (b e : Bank) (q s : Cache) (d x : ℕ) (t u : Task) (same : t ≡ u) where
-  pub rest-told : isQuick u ≡ true → ((w : Wide) → rest (cpu b q) w u (General StackWord d) x ≡ done (cpu e s)) → holdsStack (cpu e s) ≡ holdsStack (cpu b q)
-      → (isQuick t ≡ true) × ((w : Wide) → rest (cpu b q) w t (General StackWord d) x ≡ done (cpu e s)) × (holdsStack (cpu e s) ≡ holdsStack (cpu b q))
+module _ (b e : Bank) (q s : Cache) (a x : ℕ) (t u : Task) (same : t ≡ u) where
+  pub rest-told : isQuick u ≡ true → ((w : Wide) (d : ℕ) → a ≡ stackAddress (cpu b []) d → rest (cpu b q) w u (General StackWord d) x ≡ done (cpu e s)) → holdsStack (cpu e s) ≡ holdsStack (cpu b q)
+      → (isQuick t ≡ true) × ((w : Wide) (d : ℕ) → a ≡ stackAddress (cpu b []) d → rest (cpu b q) w t (General StackWord d) x ≡ done (cpu e s)) × (holdsStack (cpu e s) ≡ holdsStack (cpu b q))
   rest-told f g h = rw same (f, g, h)
+
+-- an address that fits is its low word
+pub near-low : (b : Bank) (v a c : ℕ) → Near b v a → a < 2 ^ 32 → c ≡ a % 2 ^ 32 → Near b v c
+near-low b v a c k l e = let i : a % 2 ^ 32 ≡ a = omega arith in subst (λ (n : ℕ). Near b v n) (sym (e ∙ i)) k

@@ -3,6 +3,7 @@
 use Prim.Native.Nat.{ℕ, _%_, _^_, _<_}
 use mathlib.Core.Path.{_≡_, refl, sym, ap, _∙_}
 use mathlib.Core.Bool.{Bool, true, and-false}
+use mathlib.Core.List.{[]}
 use native.Mathlib.Omega.{arith}
 use Rattle.isa.specs.declared.Mode.{Mode}
 use Rattle.isa.specs.declared.Mode.the-variants.{StackWord}
@@ -17,7 +18,7 @@ use Rattle.machine.specs.Status.{Cpu, cpu, isUser}
 use Rattle.access.specs.Parts.{done, _>>=_}
 use Rattle.exec.specs.declared.Task.{Task}
 use Rattle.exec.specs.declared.Task.the-variants.{Compute, Accumulate, Interlock, Compare, TaggedAdd, TaggedSub, Move, MoveAddress, MoveWords}
-use Rattle.exec.specs.Operands.{locate, readPlace, readOperand, checkRegisters}
+use Rattle.exec.specs.Operands.{stackAddress, locate, readPlace, readOperand, checkRegisters}
 use Rattle.exec.specs.Dyadic.{compute, accumulate, compare, move, perform, dyadic}
 use Rattle.exec.specs.Control.{advanced}
 use Rattle.exec.specs.Execute.{twoOperands, executeNormal}
@@ -42,10 +43,10 @@ source-near b q w o m x e = gives-done (readOperand (cpu b q) w o) x (e w) m
 
 -- ---- the rest near
 
-pub rest-near : (b e : Bank) (q s : Cache) (w : Wide) (t : Task) (mode : Mode) (d x : ℕ) (m : Memory) (f : Bool) → f ≡ isStackWord mode → f ≡ true → isQuick t ≡ true
-    → ((v : Wide) → rest (cpu b q) v t (General StackWord d) x ≡ done (cpu e s)) → holdsStack (cpu e s) ≡ holdsStack (cpu b q)
+pub rest-near : (b e : Bank) (q s : Cache) (w : Wide) (t : Task) (mode : Mode) (d x a : ℕ) (m : Memory) (f : Bool) → f ≡ isStackWord mode → f ≡ true → isQuick t ≡ true
+    → ((v : Wide) (k : ℕ) → a ≡ stackAddress (cpu b []) k → rest (cpu b q) v t (General StackWord k) x ≡ done (cpu e s)) → a ≡ stackAddress (cpu b []) d → holdsStack (cpu e s) ≡ holdsStack (cpu b q)
     → (isQuick t ≡ true) × gives (rest (cpu b q) w t (General mode d) x) m (cpu e s) m × (holdsStack (cpu e s) ≡ holdsStack (cpu b q))
-rest-near b e q s w t mode d x m f ef h i g hold = rw (stack-word-is mode (sym ef ∙ h)) (i, gives-done (rest (cpu b q) w t (General StackWord d) x) (cpu e s) (g w) m, hold)
+rest-near b e q s w t mode d x a m f ef h i g there hold = rw (stack-word-is mode (sym ef ∙ h)) (i, gives-done (rest (cpu b q) w t (General StackWord d) x) (cpu e s) (g w d there) m, hold)
 
 -- ---- the whole
 

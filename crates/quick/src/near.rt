@@ -20,7 +20,7 @@ use word::Width;
 ghost use mathlib.Core.Path.{_≡_};
 ghost use mathlib.Core.Bool.{true, false};
 ghost use mathlib.Core.List.{[]};
-ghost use Prim.Native.Nat.{_%_, _^_, _<_};
+ghost use Prim.Native.Nat.{ℕ, _%_, _^_, _<_};
 ghost use Rattle.isa.specs.declared.Mode.the-variants as mode;
 ghost use Rattle.isa.specs.declared.Operand.the-variants as operand;
 ghost use Rattle.isa.specs.declared.Wide.{Wide};
@@ -83,53 +83,34 @@ pub(crate) fn near_source(q: &[[u32; 4]; 16], r: &[u32; 17], m: Mode, v: u32) ->
     0x1_0000_0000
 }
 
-// MOV.
-fn near_move(q: &mut [[u32; 4]; 16], r: &[u32; 17], d: u32, x: u32) -> bool
-    ensures { λ z. ⌜ (z ≡ true → (w : Wide) → rest (cpu (now (r .entry)) (now (q .entry))) w task.Move (operand.General mode.StackWord d) x ≡ done (cpu (now (r .entry)) (now (q .exit)))) × (z ≡ false → now (q .exit) ≡ now (q .entry)) ⌝ }
-{
-    let a = near_address(r, d);
-    if 0x1_0000_0000 <= a {
-        return false;
-    }
-    cache_write(Width::Word, q, low32(a), x);
-    true
-}
-
-// ADD and its kind: the result goes to the destination.
-fn near_compute(q: &mut [[u32; 4]; 16], r: &mut [u32; 17], op: Operation, d: u32, x: u32) -> bool
-    ensures { λ z. ⌜ (z ≡ true → ((w : Wide) → rest (cpu (now (r .entry)) (now (q .entry))) w (task.Compute op) (operand.General mode.StackWord d) x ≡ done (cpu (now (r .exit)) (now (q .exit)))) × (holdsStack (cpu (now (r .exit)) (now (q .exit))) ≡ holdsStack (cpu (now (r .entry)) (now (q .entry))))) × (z ≡ false → (now (r .exit) ≡ now (r .entry)) × (now (q .exit) ≡ now (q .entry))) ⌝ }
+// ADD and its kind, to the word at a: the result goes there.
+fn near_compute(q: &mut [[u32; 4]; 16], r: &mut [u32; 17], op: Operation, a: u32, x: u32) -> bool
+    requires { ⌜ (cachedOf (now r) a ≡ true) × (a % 4 ≡ 0) ⌝ }
+    ensures { λ z. ⌜ (z ≡ true → ((w : Wide) (d : ℕ) → a ≡ stackAddress (cpu (now (r .entry)) []) d → rest (cpu (now (r .entry)) (now (q .entry))) w (task.Compute op) (operand.General mode.StackWord d) x ≡ done (cpu (now (r .exit)) (now (q .exit)))) × (holdsStack (cpu (now (r .exit)) (now (q .exit))) ≡ holdsStack (cpu (now (r .entry)) (now (q .entry))))) × (z ≡ false → (now (r .exit) ≡ now (r .entry)) × (now (q .exit) ≡ now (q .entry))) ⌝ }
 {
     if divides(op) & (x == 0) {
         return false;
     }
-    let a = near_address(r, d);
-    if 0x1_0000_0000 <= a {
-        return false;
-    }
-    let k = low32(a);
-    let y = cache_read(Width::Word, q, k);
+    let y = cache_read(Width::Word, q, a);
     let z = operate(op, y, x);
-    cache_write(Width::Word, q, k, value_of(z));
+    cache_write(Width::Word, q, a, value_of(z));
     with_flags(r, z);
     true
 }
 
 // ADD3 and its kind: the result goes to the accumulator.
-fn near_accumulate(q: &mut [[u32; 4]; 16], r: &mut [u32; 17], op: Operation, d: u32, x: u32) -> bool
-    ensures { λ z. ⌜ (z ≡ true → ((w : Wide) → rest (cpu (now (r .entry)) (now (q .entry))) w (task.Accumulate op) (operand.General mode.StackWord d) x ≡ done (cpu (now (r .exit)) (now (q .exit)))) × (holdsStack (cpu (now (r .exit)) (now (q .exit))) ≡ holdsStack (cpu (now (r .entry)) (now (q .entry))))) × (z ≡ false → (now (r .exit) ≡ now (r .entry)) × (now (q .exit) ≡ now (q .entry))) ⌝ }
+fn near_accumulate(q: &mut [[u32; 4]; 16], r: &mut [u32; 17], op: Operation, a: u32, x: u32) -> bool
+    requires { ⌜ (cachedOf (now r) a ≡ true) × (a % 4 ≡ 0) ⌝ }
+    ensures { λ z. ⌜ (z ≡ true → ((w : Wide) (d : ℕ) → a ≡ stackAddress (cpu (now (r .entry)) []) d → rest (cpu (now (r .entry)) (now (q .entry))) w (task.Accumulate op) (operand.General mode.StackWord d) x ≡ done (cpu (now (r .exit)) (now (q .exit)))) × (holdsStack (cpu (now (r .exit)) (now (q .exit))) ≡ holdsStack (cpu (now (r .entry)) (now (q .entry))))) × (z ≡ false → (now (r .exit) ≡ now (r .entry)) × (now (q .exit) ≡ now (q .entry))) ⌝ }
 {
     if divides(op) & (x == 0) {
-        return false;
-    }
-    let a = near_address(r, d);
-    if 0x1_0000_0000 <= a {
         return false;
     }
     let b = near_address(r, 4);
     if 0x1_0000_0000 <= b {
         return false;
     }
-    let y = cache_read(Width::Word, q, low32(a));
+    let y = cache_read(Width::Word, q, a);
     let z = operate(op, y, x);
     cache_write(Width::Word, q, low32(b), value_of(z));
     with_flags(r, z);
@@ -137,30 +118,33 @@ fn near_accumulate(q: &mut [[u32; 4]; 16], r: &mut [u32; 17], op: Operation, d: 
 }
 
 // CMP.
-fn near_compare(q: &[[u32; 4]; 16], r: &mut [u32; 17], relation: Relation, d: u32, x: u32) -> bool
-    ensures { λ z. ⌜ (z ≡ true → ((w : Wide) → rest (cpu (now (r .entry)) (now (q .entry))) w (task.Compare relation) (operand.General mode.StackWord d) x ≡ done (cpu (now (r .exit)) (now (q .entry)))) × (holdsStack (cpu (now (r .exit)) (now (q .entry))) ≡ holdsStack (cpu (now (r .entry)) (now (q .entry))))) × (z ≡ false → now (r .exit) ≡ now (r .entry)) ⌝ }
+fn near_compare(q: &[[u32; 4]; 16], r: &mut [u32; 17], relation: Relation, a: u32, x: u32)
+    requires { ⌜ (cachedOf (now r) a ≡ true) × (a % 4 ≡ 0) ⌝ }
+    ensures { λ _. ⌜ ((w : Wide) (d : ℕ) → a ≡ stackAddress (cpu (now (r .entry)) []) d → rest (cpu (now (r .entry)) (now (q .entry))) w (task.Compare relation) (operand.General mode.StackWord d) x ≡ done (cpu (now (r .exit)) (now (q .entry)))) × (holdsStack (cpu (now (r .exit)) (now (q .entry))) ≡ holdsStack (cpu (now (r .entry)) (now (q .entry)))) ⌝ }
 {
-    let a = near_address(r, d);
-    if 0x1_0000_0000 <= a {
-        return false;
-    }
-    let y = cache_read(Width::Word, q, low32(a));
+    let y = cache_read(Width::Word, q, a);
     with_flag(r, related(relation, x, y));
-    true
 }
 
-// What is left of a task with the source x, the destination such a word.
-pub(crate) fn near_rest(q: &mut [[u32; 4]; 16], r: &mut [u32; 17], t: Task, d: u32, x: u32) -> bool
-    ensures { λ z. ⌜ (z ≡ true → (isQuick t ≡ true) × ((w : Wide) → rest (cpu (now (r .entry)) (now (q .entry))) w t (operand.General mode.StackWord d) x ≡ done (cpu (now (r .exit)) (now (q .exit)))) × (holdsStack (cpu (now (r .exit)) (now (q .exit))) ≡ holdsStack (cpu (now (r .entry)) (now (q .entry))))) × (z ≡ false → (now (r .exit) ≡ now (r .entry)) × (now (q .exit) ≡ now (q .entry))) ⌝ }
+// What is left of a task with the source x, the destination such a word, at a.
+pub(crate) fn near_rest(q: &mut [[u32; 4]; 16], r: &mut [u32; 17], t: Task, a: u32, x: u32) -> bool
+    requires { ⌜ (cachedOf (now r) a ≡ true) × (a % 4 ≡ 0) ⌝ }
+    ensures { λ z. ⌜ (z ≡ true → (isQuick t ≡ true) × ((w : Wide) (d : ℕ) → a ≡ stackAddress (cpu (now (r .entry)) []) d → rest (cpu (now (r .entry)) (now (q .entry))) w t (operand.General mode.StackWord d) x ≡ done (cpu (now (r .exit)) (now (q .exit)))) × (holdsStack (cpu (now (r .exit)) (now (q .exit))) ≡ holdsStack (cpu (now (r .entry)) (now (q .entry))))) × (z ≡ false → (now (r .exit) ≡ now (r .entry)) × (now (q .exit) ≡ now (q .entry))) ⌝ }
 {
     match t {
-        Task::Compute(op) => near_compute(q, r, op, d, x),
-        Task::Accumulate(op) => near_accumulate(q, r, op, d, x),
+        Task::Compute(op) => near_compute(q, r, op, a, x),
+        Task::Accumulate(op) => near_accumulate(q, r, op, a, x),
         Task::Interlock(_) => false,
-        Task::Compare(relation) => near_compare(q, r, relation, d, x),
+        Task::Compare(relation) => {
+            near_compare(q, r, relation, a, x);
+            true
+        }
         Task::TaggedAdd => false,
         Task::TaggedSub => false,
-        Task::Move => near_move(q, r, d, x),
+        Task::Move => {
+            cache_write(Width::Word, q, a, x);
+            true
+        }
         Task::MoveAddress => false,
         Task::MoveWords => false,
     }

@@ -57,8 +57,9 @@ fn finish(
     ensures { λ z. ⌜ (z ≡ true → (isQuick t ≡ true) × gives (rest (cpu (now (r .entry)) (now (q .entry))) wide t (operand.General mode d) x) (now (m .entry)) (cpu (now (r .exit)) (now (q .exit))) (now (m .exit)) × (holdsStack (cpu (now (r .exit)) (now (q .exit))) ≡ holdsStack (cpu (now (r .entry)) (now (q .entry))))) × (z ≡ false → (now (m .exit) ≡ now (m .entry)) × (now (r .exit) ≡ now (r .entry)) × (now (q .exit) ≡ now (q .entry))) ⌝ }
 {
     if is_stack_word(mode) {
-        if near_address(r, d) < 0x1_0000_0000 {
-            return near_rest(q, r, t, d, x);
+        let a = near_address(r, d);
+        if a < 0x1_0000_0000 {
+            return near_rest(q, r, t, low32(a), x);
         }
     }
     quiet_rest(m, q, r, wide, t, mode, d, x)

@@ -17,23 +17,14 @@ near-address-requires c κs = search needs
 returns-2 : tie.Need-returns-2
 returns-2 c = (λ h. not-both h, λ h. (refl, refl))
 
-near-address-requires-2 : tie.Need-near-address-requires-2
-near-address-requires-2 c κs = search needs
-
-returns-3 : tie.Need-returns-3
-returns-3 c = (λ h. not-both h, λ h. (refl, refl))
-
-low32-requires : tie.Need-low32-requires
-low32-requires c κs = search needs
-
 cache-read-requires : tie.Need-cache-read-requires
 cache-read-requires c κs = search needs
 
 operate-requires : tie.Need-operate-requires
 operate-requires c κs = search needs
 
-low32-requires-2 : tie.Need-low32-requires-2
-low32-requires-2 c κs = search needs
+low32-requires : tie.Need-low32-requires
+low32-requires c κs = search needs
 
 value-of-requires : tie.Need-value-of-requires
 value-of-requires c κs = search needs
@@ -44,8 +35,8 @@ cache-write-requires c κs = search needs
 with-flags-requires : tie.Need-with-flags-requires
 with-flags-requires c κs = search needs
 
-returns-4 : tie.Need-returns-4
-returns-4 c = (λ h. ((λ w. rest-accumulate _ _ _ _ (c .before .before .before .before .before .before .before .before .before .before .before .before .before .before .near-address .ensures (c .before .before .before .before .before .before .before .before .before .before .before .before .before .if2 .left)) (c .before .before .before .before .before .before .before .before .before .before .before .before .before .if2 .left) _ (c .before .before .before .before .before .before .before .before .low32 .ensures) w _ _ (c .before .before .before .before .before .before .before .cache-read .ensures) _ _ (c .before .before .before .before .before .before .before .before .before .before .before .before .before .before .before .before .before .divides .ensures) _ refl (c .before .before .before .before .before .before .before .before .before .before .before .before .before .before .before .before .if1 .left) _ (c .before .before .before .before .before .before .operate .ensures) _ (c .before .before .before .value-of .ensures) _ (c .with-flags .ensures) _ (c .before .before .before .before .before .before .before .before .before .before .before .near-address2 .ensures (c .before .before .before .before .before .before .before .before .before .before .if3 .left)) (c .before .before .before .before .before .before .before .before .before .before .if3 .left) _ (c .before .before .before .before .low322 .ensures) _ (c .before .before .cache-write .ensures)), flags-hold (c .before .before .before .before .before .before .before .before .before .before .before .before .before .before .before .before .before .before .args .r .now) _ (c .before .before .before .before .before .before .operate .result) (c .with-flags .ensures)), λ h. not-both (sym h))
+returns-3 : tie.Need-returns-3
+returns-3 c = (λ h. ((λ w d t. rest-accumulate _ _ _ (c .before .before .before .before .before .before .before .before .before .before .before .before .before .before .pre .0) (c .before .before .before .before .before .before .before .before .before .before .before .before .before .before .pre .1) w d t _ _ (c .before .before .before .before .before .before .before .cache-read .ensures) _ _ (c .before .before .before .before .before .before .before .before .before .before .before .before .before .divides .ensures) _ refl (c .before .before .before .before .before .before .before .before .before .before .before .before .if1 .left) _ (c .before .before .before .before .before .before .operate .ensures) _ (c .before .before .before .value-of .ensures) _ (c .with-flags .ensures) _ (c .before .before .before .before .before .before .before .before .before .before .near-address .ensures (c .before .before .before .before .before .before .before .before .before .if2 .left)) (c .before .before .before .before .before .before .before .before .before .if2 .left) _ (c .before .before .before .before .low32 .ensures) _ (c .before .before .cache-write .ensures)), flags-hold (c .before .before .before .before .before .before .before .before .before .before .before .before .before .before .args .r .now) _ (c .before .before .before .before .before .before .operate .result) (c .with-flags .ensures)), λ h. not-both (sym h))
 
 pub near-accumulate-spec : {M : Type 1} → statement M
 near-accumulate-spec =
@@ -55,13 +46,10 @@ near-accumulate-spec =
     returns
     near-address-requires
     returns-2
-    near-address-requires-2
-    returns-3
-    low32-requires
     cache-read-requires
     operate-requires
-    low32-requires-2
+    low32-requires
     value-of-requires
     cache-write-requires
     with-flags-requires
-    returns-4)
+    returns-3)

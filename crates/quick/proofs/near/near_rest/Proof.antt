@@ -1,6 +1,6 @@
-use Rattle.quick.proofs.NearLaws.{rest-told}
+use Rattle.quick.proofs.NearLaws.{rest-told, rest-move}
 use Rattle.quick.proofs.GiveLaws.{not-both}
-use mathlib.Core.Path.{refl}
+use mathlib.Core.Path.{refl, sym}
 use borrow.Author.Needs.{needs}
 use Rattle.quick.proofs.near.near_rest.Statement.{statement}
 use Rattle.quick.proofs.near.near_rest.Tie as tie
@@ -35,8 +35,8 @@ enum-told-3 c = search needs
 enum-told-4 : tie.Need-enum-told-4
 enum-told-4 c = search needs
 
-near-move-requires : tie.Need-near-move-requires
-near-move-requires c κs = search needs
+cache-write-requires : tie.Need-cache-write-requires
+cache-write-requires c κs = search needs
 
 enum-told-5 : tie.Need-enum-told-5
 enum-told-5 c = search needs
@@ -54,7 +54,7 @@ returns-3 : tie.Need-returns-3
 returns-3 c = (λ h. not-both h, λ h. (refl, refl))
 
 returns-4 : tie.Need-returns-4
-returns-4 c = (λ h. rest-told _ _ _ _ _ _ _ _ (c .before .before .before .before .t3 .given .1) refl (c .near-compare .ensures .0 h .0) (c .near-compare .ensures .0 h .1), λ h. (c .near-compare .ensures .1 h, refl))
+returns-4 c = (λ h. rest-told _ _ _ _ _ _ _ _ (c .before .before .before .before .t3 .given .1) refl (c .near-compare .ensures .0) (c .near-compare .ensures .1), λ h. not-both (sym h))
 
 returns-5 : tie.Need-returns-5
 returns-5 c = (λ h. not-both h, λ h. (refl, refl))
@@ -63,7 +63,7 @@ returns-6 : tie.Need-returns-6
 returns-6 c = (λ h. not-both h, λ h. (refl, refl))
 
 returns-7 : tie.Need-returns-7
-returns-7 c = (λ h. rest-told _ _ _ _ _ _ _ _ (c .before .before .before .enum-told4 .given .1) refl (c .near-move .ensures .0 h) refl, λ h. (refl, c .near-move .ensures .1 h))
+returns-7 c = (λ h. rest-told _ _ _ _ _ _ _ _ (c .before .before .enum-told4 .given .1) refl (λ w d t. rest-move _ _ _ (c .before .before .before .before .pre .0) (c .before .before .before .before .pre .1) w d t _ _ (c .cache-write .ensures)) refl, λ h. not-both (sym h))
 
 returns-8 : tie.Need-returns-8
 returns-8 c = (λ h. not-both h, λ h. (refl, refl))
@@ -85,7 +85,7 @@ near-rest-spec =
     enum-told-2
     enum-told-3
     enum-told-4
-    near-move-requires
+    cache-write-requires
     enum-told-5
     enum-told-6
     returns
