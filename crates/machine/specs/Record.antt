@@ -1,4 +1,4 @@
--- The machine record of the code, as the bank and the cache of the definitions; the start; frame 01 on it.
+-- The machine record of the code, as the bank and the cache of the definitions; the start; a register read.
 -- Assumes nothing.
 use Prim.Native.Nat.{ℕ, zero, suc, _-_}
 use mathlib.Core.Bool.{Bool, cond}
@@ -6,10 +6,9 @@ use mathlib.Core.List.{List, [], _∷_, _++_}
 use lib.ListN.{replicate}
 use lib.Dec.{eqb}
 use Rattle.machine.specs.declared.Machine.{Machine}
-use Rattle.machine.specs.declared.Assignment.{Assignment}
 use Rattle.machine.specs.declared.Reading.{Reading}
 use Rattle.machine.specs.Registers.{Bank, word, traceDue, timer1Due, timer2Due, nmiTaken}
-use Rattle.machine.specs.Registers.{goodBank, badRegister, isRegister, Setting, setRegister}
+use Rattle.machine.specs.Registers.{goodBank, badRegister, isRegister}
 use Rattle.machine.specs.Cache.{Cache, quadsOf, flatOf}
 use Rattle.machine.specs.Status.{Cpu, cpu}
 
@@ -54,33 +53,11 @@ zeroCache = replicate 16 (replicate 4 0)
 abbrev pub refusalOf : Machine → ℕ
 refusalOf m = cond (goodBank (bankOf m)) 0 badRegister
 
--- ---- frame 01
-
--- the machine with the registers of a bank: "Frame 01 changes nothing due, no mark and no cache word"
-abbrev pub withRegisters : Machine → List ℕ → Machine
-withRegisters m b =
-    record {
-      registers = wordsTo 13 b;
-      cache = m .cache;
-      «trace_due» = m .«trace_due»;
-      «timer1_due» = m .«timer1_due»;
-      «timer2_due» = m .«timer2_due»;
-      «nmi_taken» = m .«nmi_taken»;
-    }
-
-abbrev pub assignment : ℕ → Machine → Assignment
-assignment r m = record { refusal = r; machine = m }
-
--- a refusal leaves the machine as it was
-abbrev pub answered : Machine → Setting → Assignment
-answered m s = cond (eqb (s .refusal) 0) (assignment 0 (withRegisters m (s .bank))) (assignment (s .refusal) m)
-
-unfoldable pub assignmentOf : Machine → ℕ → ℕ → Assignment
-assignmentOf m p v = answered m (setRegister (bankOf m) p v)
+-- ---- a register read
 
 abbrev pub reading : ℕ → ℕ → Reading
 reading r v = record { refusal = r; value = v }
 
 -- the register at place p of Table 1-1; a refusal has the value 0
-unfoldable pub readingOf : Machine → ℕ → Reading
-readingOf m p = cond (isRegister p) (reading 0 (word (bankOf m) (p - 1))) (reading badRegister 0)
+unfoldable pub readingOf : Bank → ℕ → Reading
+readingOf b p = cond (isRegister p) (reading 0 (word b (p - 1))) (reading badRegister 0)

@@ -15,12 +15,6 @@ pub struct Machine {
     pub nmi_taken: bool,
 }
 
-// A register set: 0 and the machine after it, or the refusal and the machine as it was.
-pub struct Assignment {
-    pub refusal: u32,
-    pub machine: Machine,
-}
-
 // A register read: 0 and its word, or the refusal and 0.
 pub struct Reading {
     pub refusal: u32,

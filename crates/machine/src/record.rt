@@ -1,11 +1,10 @@
-// The machine record, converted once a run: the bank and the quad-words that the run works on, and back.
+// The machine record, converted once a run: the bank and the quad-words that the run works on, and back. Both at the start.
 use crate::Machine;
 use crate::cache::flat;
 ghost use mathlib.Core.Path.{_≡_};
 ghost use lib.ListN.{length};
 ghost use Rattle.machine.specs.Registers.{startBank};
-ghost use Rattle.machine.specs.Status.{cpu};
-ghost use Rattle.machine.specs.Record.{dueWord, isDue, bankOf, cpuOf, machineOf, zeroCache};
+ghost use Rattle.machine.specs.Record.{dueWord, isDue, bankOf, machineOf, zeroCache};
 
 // What is due, as a word of the bank.
 pub fn due_word(due: bool) -> u32
@@ -76,16 +75,16 @@ pub fn machine_of(b: &[u32; 17], q: &[[u32; 4]; 16]) -> Machine
     }
 }
 
-// The machine at the start: ID 0x0000003B, every other register 0, nothing due.
-pub fn start() -> Machine
-    ensures { λ r. ⌜ cpuOf r ≡ cpu startBank zeroCache ⌝ }
+// The bank at the start: ID 0x0000003B, every other register 0, nothing due.
+pub fn start_bank() -> [u32; 17]
+    ensures { λ r. ⌜ r ≡ startBank ⌝ }
 {
-    Machine {
-        registers: [0, 0, 0x3B, 0, 0, 0, 0, 0, 0, 0, 0, 0, 0],
-        cache: [0; 64],
-        trace_due: false,
-        timer1_due: false,
-        timer2_due: false,
-        nmi_taken: false,
-    }
+    [0, 0, 0x3B, 0, 0, 0, 0, 0, 0, 0, 0, 0, 0, 0, 0, 0, 0]
+}
+
+// The quad-words at the start.
+pub fn start_cache() -> [[u32; 4]; 16]
+    ensures { λ r. ⌜ r ≡ zeroCache ⌝ }
+{
+    [[0; 4]; 16]
 }

@@ -1,5 +1,4 @@
 use Rattle.machine.proofs.AssignLaws.{takes-made}
-use Rattle.machine.proofs.Sizes.{registers-13}
 use borrow.Author.Needs.{needs}
 use Rattle.machine.proofs.assign.takes.Statement.{statement}
 use Rattle.machine.proofs.assign.takes.Tie as tie
@@ -15,9 +14,8 @@ stack-held-requires c κs = search needs
 
 returns : tie.Need-returns
 returns c =
-    let s = c .before .before .before in
-    let m = s .args .t1 in
-    takes-made m (registers-13 m _ (s .good .0)) (s .args .k) (s .args .v) _ _ (c .before .before .clean .ensures) (c .stack-held .ensures)
+    let s = c .before .before .before .args in
+    takes-made (s .b .now) (s .k) (s .v) _ _ (c .before .before .clean .ensures) (c .stack-held .ensures)
 
 pub takes-spec : {M : Type 1} → statement M
 takes-spec =
