@@ -4,7 +4,9 @@ use crate::digits::all_digits;
 use crate::digits::byte_at;
 use crate::digits::word_at;
 ghost use mathlib.Core.Path.{_≡_};
+ghost use mathlib.Core.Bool.{true};
 ghost use lib.ListN.{length};
+ghost use Rattle.lines.specs.Digits.{allDigits};
 ghost use Rattle.lines.specs.Lines.{isLength, ofTwelve, frameOf};
 
 fn is_length(n: usize) -> bool
@@ -15,7 +17,7 @@ fn is_length(n: usize) -> bool
 
 // Kinds 01, 03 and 04.
 fn of_twelve(kind: u8, line: &[u8]) -> Frame
-    requires { ⌜ length (now line) ≡ 12 ⌝ }
+    requires { ⌜ (length (now line) ≡ 12) × (allDigits (now line) ≡ true) ⌝ }
     ensures { λ r. ⌜ r ≡ ofTwelve kind (now (line .entry)) ⌝ }
 {
     if kind == 1 {

@@ -1,22 +1,93 @@
-use Rattle.lines.proofs.DigitLaws.{digit-decimal, digit-letter}
+use mathlib.Core.Path.{sym, ap}
+use Prim.Native.Nat.{zero-le}
+use native.Mathlib.Omega.{arith}
+use Rattle.laws.proofs.Match.{climb}
+use Rattle.lines.specs.Digits.{digit}
+use Rattle.lines.proofs.DigitLaws.{digit-last}
 use borrow.Author.Needs.{needs}
 use Rattle.lines.proofs.digits.last_digit.Statement.{statement}
 use Rattle.lines.proofs.digits.last_digit.Tie as tie
 
-cast-d : tie.Need-cast-d
-cast-d c = search needs
-
-add-result : tie.Need-add-result
-add-result c = search needs
-
-add-result-2 : tie.Need-add-result-2
-add-result-2 c = search needs
-
 returns : tie.Need-returns
-returns c = search (needs, digit-decimal)
+unfolding digit
+returns c = ap digit (sym (c .match .keys1))
 
 returns-2 : tie.Need-returns-2
-returns-2 c = search (needs, digit-letter)
+unfolding digit
+returns-2 c = ap digit (sym (c .match .keys2))
+
+returns-3 : tie.Need-returns-3
+unfolding digit
+returns-3 c = ap digit (sym (c .match .keys3))
+
+returns-4 : tie.Need-returns-4
+unfolding digit
+returns-4 c = ap digit (sym (c .match .keys4))
+
+returns-5 : tie.Need-returns-5
+unfolding digit
+returns-5 c = ap digit (sym (c .match .keys5))
+
+returns-6 : tie.Need-returns-6
+unfolding digit
+returns-6 c = ap digit (sym (c .match .keys6))
+
+returns-7 : tie.Need-returns-7
+unfolding digit
+returns-7 c = ap digit (sym (c .match .keys7))
+
+returns-8 : tie.Need-returns-8
+unfolding digit
+returns-8 c = ap digit (sym (c .match .keys8))
+
+returns-9 : tie.Need-returns-9
+unfolding digit
+returns-9 c = ap digit (sym (c .match .keys9))
+
+returns-10 : tie.Need-returns-10
+unfolding digit
+returns-10 c = ap digit (sym (c .match .keys10))
+
+returns-11 : tie.Need-returns-11
+unfolding digit
+returns-11 c = ap digit (sym (c .match .keys11))
+
+returns-12 : tie.Need-returns-12
+unfolding digit
+returns-12 c = ap digit (sym (c .match .keys12))
+
+returns-13 : tie.Need-returns-13
+unfolding digit
+returns-13 c = ap digit (sym (c .match .keys13))
+
+returns-14 : tie.Need-returns-14
+unfolding digit
+returns-14 c = ap digit (sym (c .match .keys14))
+
+returns-15 : tie.Need-returns-15
+unfolding digit
+returns-15 c = ap digit (sym (c .match .keys15))
+
+returns-16 : tie.Need-returns-16
+returns-16 c = digit-last _ (climb _ 0 15 _ zero-le (c .match .rest)) (omega arith)
 
 pub last-digit-spec : {M : Type 1} → statement M
-last-digit-spec = tie.close (tie.spec cast-d add-result add-result-2 returns returns-2)
+last-digit-spec =
+    tie.close
+    (tie.spec
+    returns
+    returns-2
+    returns-3
+    returns-4
+    returns-5
+    returns-6
+    returns-7
+    returns-8
+    returns-9
+    returns-10
+    returns-11
+    returns-12
+    returns-13
+    returns-14
+    returns-15
+    returns-16)

@@ -1,20 +1,20 @@
-use native.Mathlib.Omega.{arith}
-use Rattle.lines.proofs.DigitLaws.{value-is}
+use Rattle.lines.proofs.DigitLaws.{no-digit}
+use mathlib.Core.Path.{sym, _∙_}
 use borrow.Author.Needs.{needs}
 use Rattle.lines.proofs.digits.value.Statement.{statement}
 use Rattle.lines.proofs.digits.value.Tie as tie
 
-decimal-requires : tie.Need-decimal-requires
-decimal-requires c κs = search needs
+is-digit-requires : tie.Need-is-digit-requires
+is-digit-requires c κs = search needs
 
-letter-requires : tie.Need-letter-requires
-letter-requires c κs = search needs
-
-add-result : tie.Need-add-result
-add-result c = omega (arith, value-is (c .before .before .args .b) _ _ (c .before .decimal .ensures) (c .letter .ensures) .1)
+number-of-requires : tie.Need-number-of-requires
+number-of-requires c κs = sym (c .before .is-digit .ensures) ∙ c .if1 .taken
 
 returns : tie.Need-returns
-returns c = value-is (c .before .before .args .b) _ _ (c .before .decimal .ensures) (c .letter .ensures)
+returns c = search needs
+
+returns-2 : tie.Need-returns-2
+returns-2 c = no-digit (c .before .before .args .b) _ (c .before .is-digit .ensures) (c .if1 .left)
 
 pub value-spec : {M : Type 1} → statement M
-value-spec = tie.close (tie.spec decimal-requires letter-requires add-result returns)
+value-spec = tie.close (tie.spec is-digit-requires number-of-requires returns returns-2)

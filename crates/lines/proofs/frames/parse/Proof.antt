@@ -1,3 +1,4 @@
+use mathlib.Core.Path.{sym, _∙_}
 use lib.ListN.{length}
 use native.Mathlib.Omega.{arith}
 use Rattle.lines.proofs.FrameLaws.{least, bad-length, bad-digit, is-store, is-twelve, bad-kind}
@@ -9,19 +10,25 @@ is-length-requires : tie.Need-is-length-requires
 is-length-requires c κs = search needs
 
 all-digits-requires : tie.Need-all-digits-requires
-all-digits-requires c κs = search needs
+all-digits-requires c κs =
+    let h = least (length (c .before .before .before .args .line .now)) _ (c .before .is-length .ensures) (c .if1 .taken) in
+    omega (arith, h)
 
 byte-at-requires : tie.Need-byte-at-requires
-byte-at-requires c κs = omega (arith, least (length (c .before .before .before .before .before .args .line .now)) _ (c .before .before .before .is-length .ensures) (c .before .before .if1 .taken))
+byte-at-requires c κs =
+    let h = least (length (c .before .before .before .before .before .args .line .now)) _ (c .before .before .before .is-length .ensures) (c .before .before .if1 .taken) in
+    (omega (arith, h), sym (c .before .all-digits .ensures) ∙ c .if2 .taken)
 
 word-at-requires : tie.Need-word-at-requires
-word-at-requires c κs = omega (arith, least (length (c .before .before .before .before .before .before .before .args .line .now)) _ (c .before .before .before .before .before .is-length .ensures) (c .before .before .before .before .if1 .taken))
+word-at-requires c κs =
+    let h = least (length (c .before .before .before .before .before .before .before .args .line .now)) _ (c .before .before .before .before .before .is-length .ensures) (c .before .before .before .before .if1 .taken) in
+    (omega (arith, h), sym (c .before .before .before .all-digits .ensures) ∙ c .before .before .if2 .taken)
 
 returns : tie.Need-returns
 returns c = search (needs, is-store)
 
 of-twelve-requires : tie.Need-of-twelve-requires
-of-twelve-requires c κs = search needs
+of-twelve-requires c κs = (c .if4 .taken, sym (c .before .before .before .before .all-digits .ensures) ∙ c .before .before .before .if2 .taken)
 
 returns-2 : tie.Need-returns-2
 returns-2 c = search (needs, is-twelve)

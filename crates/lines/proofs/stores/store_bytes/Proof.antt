@@ -13,14 +13,14 @@ abbrev μ-loop : tie.MeasureT-loop
 loop-holds : tie.Need-loop-holds Inv-loop μ-loop
 loop-holds c = search (needs, storing-none)
 
-mul-byte-at : tie.Need-mul-byte-at Inv-loop μ-loop
-mul-byte-at c = search needs
+mul-any-byte-at : tie.Need-mul-any-byte-at Inv-loop μ-loop
+mul-any-byte-at c = search needs
 
-add-byte-at : tie.Need-add-byte-at Inv-loop μ-loop
-add-byte-at c = search needs
+add-any-byte-at : tie.Need-add-any-byte-at Inv-loop μ-loop
+add-any-byte-at c = search needs
 
-byte-at-requires : tie.Need-byte-at-requires Inv-loop μ-loop
-byte-at-requires c κs = search needs
+any-byte-at-requires : tie.Need-any-byte-at-requires Inv-loop μ-loop
+any-byte-at-requires c κs = search needs
 
 add-m : tie.Need-add-m Inv-loop μ-loop
 add-m c = search needs
@@ -50,9 +50,9 @@ store-bytes-spec =
     Inv-loop
     μ-loop
     loop-holds
-    mul-byte-at
-    add-byte-at
-    byte-at-requires
+    mul-any-byte-at
+    add-any-byte-at
+    any-byte-at-requires
     add-m
     slice-write-m
     add-k
