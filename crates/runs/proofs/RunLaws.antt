@@ -164,41 +164,51 @@ advance-shaped confined level n (suc budget) s h =
 
 -- ---- the run
 
-module _ (confined : Bool) (budget level : ℕ) (begun : Machine) (m : Memory) (b : Bank) (q : Cache) (eb : b ≡ bankOf begun) (eq : q ≡ quadsOf (begun .cache))
-    (e : ℕ) (ee : e ≡ refusal confined level (board (cpu b q) m)) where
-  same : board (cpu b q) m ≡ board (cpuOf begun) m
-  same = rw (eb, eq) refl
-
-  refused-as : refusal confined level (board (cpuOf begun) m) ≡ e
-  refused-as = ap (λ (s : Board). refusal confined level s) (sym same) ∙ sym ee
-
-  pub run-refused : (e ≡ 0 → ⊥) → endedOf (record { machine = begun; steps = 0; stop = 1; code = e }) m ≡ run confined budget level (board (cpuOf begun) m)
+module _ (confined : Bool) (budget level : ℕ) (s : Board) (e : ℕ) (ee : e ≡ refusal confined level s) where
+  pub run-refused : (e ≡ 0 → ⊥) → ended 0 1 e s ≡ run confined budget level s
   unfolding run
-  run-refused h = rw refused-as (go e h)
+  run-refused h = rw (← ee) (go e h)
     where
-      go : (k : ℕ) → (k ≡ 0 → ⊥) → ended 0 1 k (board (cpuOf begun) m) ≡ unlessRefused k (advance (turnOf confined level) 0 budget (board (cpuOf begun) m)) (board (cpuOf begun) m)
+      go : (k : ℕ) → (k ≡ 0 → ⊥) → ended 0 1 k s ≡ unlessRefused k (advance (turnOf confined level) 0 budget s) s
       go zero f = absurd (f refl)
       go (suc k) f = refl
 
-  -- a, p and l are what the turns left
-  pub run-done : e ≡ 0 → length b ≡ 17 → (n r k : ℕ) (a : Bank) (p : Cache) (l : Memory)
-      → ended n r k (board (cpu a p) l) ≡ advance (turnOf confined level) 0 budget (board (cpu b q) m)
-      → (d : Machine) → d ≡ machineOf a p
-      → endedOf (record { machine = d; steps = n; stop = r; code = k }) l ≡ run confined budget level (board (cpuOf begun) m)
+  pub run-advanced : e ≡ 0 → (x : Ended) → x ≡ advance (turnOf confined level) 0 budget s → x ≡ run confined budget level s
   unfolding run
-  run-done h long n r k a p l f d ed =
-      ap (λ (c : Cpu). ended n r k (board c l)) (ap (λ (x : Machine). cpuOf x) ed ∙ cpu-machine a p (held .bank) (held .cache))
-      ∙ f
-      ∙ rw (refused-as ∙ h) (ap (λ (s : Board). advance (turnOf confined level) 0 budget s) same)
-    where
-      thirteen : length (begun .registers) ≡ 13
-      thirteen = let f : length (begun .registers) + 4 ≡ 17 = sym (length-append (begun .registers) (dues begun)) ∙ ap (λ (l : Bank). length l) (sym eb) ∙ long in omega arith
+  run-advanced h x f = rw (sym ee ∙ h) f
 
-      begun-shaped : Shaped (cpu b q)
-      begun-shaped = rw (eb, eq) (record { bank = bank-shape begun thirteen; cache = shape-quads (begun .cache) })
+  -- no budget
+  pub run-none : e ≡ 0 → budget ≡ 0 → ended 0 0 0 s ≡ run confined budget level s
+  unfolding advance
+  run-none h f = run-advanced h (ended 0 0 0 s) (rw f refl)
 
-      held : Shaped (cpu a p)
-      held = rw (ap (λ (x : Ended). x .left .cpu) f) (advance-shaped confined level 0 budget (board (cpu b q) m) begun-shaped)
+run-shaped : (confined : Bool) (budget level : ℕ) (s : Board) → Shaped (s .cpu) → Shaped (run confined budget level s .left .cpu)
+unfolding run
+run-shaped confined budget level s h = go (refusal confined level s)
+  where
+    go : (e : ℕ) → Shaped (unlessRefused e (advance (turnOf confined level) 0 budget s) s .left .cpu)
+    go zero = advance-shaped confined level 0 budget s h
+    go (suc e) = h
+
+-- a machine by value, in the bank b and the quad-words q; a, p and l are what the run left
+pub run-machine : (confined : Bool) (budget level : ℕ) (begun : Machine) (m : Memory) (b : Bank) (q : Cache) → b ≡ bankOf begun → length b ≡ 17 → q ≡ quadsOf (begun .cache)
+    → (n r k : ℕ) (a : Bank) (p : Cache) (l : Memory)
+    → ended n r k (board (cpu a p) l) ≡ run confined budget level (board (cpu b q) m)
+    → (d : Machine) → d ≡ machineOf a p
+    → endedOf (record { machine = d; steps = n; stop = r; code = k }) l ≡ run confined budget level (board (cpuOf begun) m)
+run-machine confined budget level begun m b q eb long eq n r k a p l f d ed =
+    ap (λ (c : Cpu). ended n r k (board c l)) (ap (λ (x : Machine). cpuOf x) ed ∙ cpu-machine a p (held .bank) (held .cache))
+    ∙ f
+    ∙ (λ i. run confined budget level (board (cpu (eb i) (eq i)) m))
+  where
+    thirteen : length (begun .registers) ≡ 13
+    thirteen = let g : length (begun .registers) + 4 ≡ 17 = sym (length-append (begun .registers) (dues begun)) ∙ ap (λ (x : Bank). length x) (sym eb) ∙ long in omega arith
+
+    begun-shaped : Shaped (cpu b q)
+    begun-shaped = rw (eb, eq) (record { bank = bank-shape begun thirteen; cache = shape-quads (begun .cache) })
+
+    held : Shaped (cpu a p)
+    held = rw (ap (λ (x : Ended). x .left .cpu) f) (run-shaped confined budget level (board (cpu b q) m) begun-shaped)
 
 -- whole pages are whole words
 pub words-whole : (confined : Bool) (level : ℕ) (s : Board) (e : ℕ) → e ≡ refusal confined level s → e ≡ 0 → length (s .memory) % 4 ≡ 0

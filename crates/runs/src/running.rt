@@ -93,23 +93,44 @@ fn refusal(m: &[u8], r: &[u32; 17], q: &[[u32; 4]; 16], confined: bool, level: u
     }
 }
 
-// A run of a machine on a lent memory: kind 03, which takes events, or kind 04, confined.
+// A run of a lent machine and memory: kind 03, which takes events, or kind 04, confined.
+pub fn run_lent(
+    m: &mut [u8],
+    q: &mut [[u32; 4]; 16],
+    r: &mut [u32; 17],
+    confined: bool,
+    budget: u32,
+    level: u32,
+) -> Stopped
+    ensures { λ x. ⌜ stoppedAt x (board (cpu (now (r .exit)) (now (q .exit))) (now (m .exit))) ≡ runOf confined budget level (board (cpu (now (r .entry)) (now (q .entry))) (now (m .entry))) ⌝ }
+{
+    let e = refusal(m, r, q, confined, level);
+    if e != 0 {
+        return Stopped {
+            steps: 0,
+            stop: 1,
+            code: e,
+        };
+    }
+    // No turn is taken, so no journal is made for one.
+    if budget == 0 {
+        return Stopped {
+            steps: 0,
+            stop: 0,
+            code: 0,
+        };
+    }
+    advance(m, q, r, confined, budget, level)
+}
+
+// The same of a machine by value.
 pub fn run(m: &mut [u8], begun: Machine, confined: bool, budget: u32, level: u32) -> Ran
     ensures { λ x. ⌜ endedOf x (now (m .exit)) ≡ runOf confined budget level (board (cpuOf begun) (now (m .entry))) ⌝ }
 {
     let mut r = bank(begun);
     let words = begun.cache;
     let mut q = quads(words);
-    let e = refusal(m, &r, &q, confined, level);
-    if e != 0 {
-        return Ran {
-            machine: begun,
-            steps: 0,
-            stop: 1,
-            code: e,
-        };
-    }
-    let x = advance(m, &mut q, &mut r, confined, budget, level);
+    let x = run_lent(m, &mut q, &mut r, confined, budget, level);
     Ran {
         machine: machine_of(&r, &q),
         steps: x.steps,
