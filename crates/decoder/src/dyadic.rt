@@ -52,6 +52,7 @@ fn extend_half(m: Mode, x: u32) -> u32
     if is_absolute(m) { x } else { extend(16, x) }
 }
 
+// What an operand field says in a mode.
 pub fn value(wide: Wide, m: Mode, x: u32) -> u32
     ensures { λ r. ⌜ r ≡ operandValue wide m x ⌝ }
 {

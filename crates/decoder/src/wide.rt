@@ -10,6 +10,7 @@ ghost use mathlib.Core.Path.{_≡_};
 ghost use Rattle.isa.specs.Decode.{decodeWide};
 ghost use Rattle.decoder.specs.Forms.{formOf, afterOf, monadicForm, firstOf, secondOf};
 
+// The form of a parcel whose top bit is 1.
 pub fn find_form(p: u16) -> Wide
     ensures { λ r. ⌜ r ≡ formOf p ⌝ }
 {
@@ -36,6 +37,7 @@ pub fn is_monadic(wide: Wide, p: u16) -> bool
     }
 }
 
+// The first operand field, of the parcels a and b.
 pub fn first(wide: Wide, a: u16, b: u16) -> u32
     ensures { λ r. ⌜ r ≡ firstOf wide a b ⌝ }
 {
@@ -45,6 +47,7 @@ pub fn first(wide: Wide, a: u16, b: u16) -> u32
     }
 }
 
+// The second operand field, of the parcels after a.
 pub fn second(wide: Wide, b: u16, c: u16, d: u16) -> u32
     ensures { λ r. ⌜ r ≡ secondOf wide b c d ⌝ }
 {
