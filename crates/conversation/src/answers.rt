@@ -1,24 +1,20 @@
-// A line answered. A line that asks for no machine goes by itself, so that none is copied for it.
-use crate::Alone;
-use crate::Told;
+// A line answered: bank, quad-words, memory and buffer are changed where they stand, and the answer is the place of the
+// buffer after what was printed.
 use lines::Frame;
 use lines::answers::put_ran;
 use lines::answers::put_refused;
 use lines::frames::parse;
 use lines::stores::store;
-use machine::Machine;
-use machine::assign::read_register;
 use machine::assign::set_register;
-use runs::running::run;
+use runs::running::run_lent;
 ghost use mathlib.Core.Path.{_≡_};
 ghost use Rattle.machine.specs.Registers.{setRegister};
-ghost use Rattle.machine.specs.Cache.{quadsOf};
 ghost use Rattle.machine.specs.Status.{cpu};
-ghost use Rattle.machine.specs.Record.{bankOf, cpuOf};
 ghost use Rattle.run.specs.Run.{board, run as runOf};
 ghost use Rattle.lines.specs.Answers.{output, printed};
+ghost use Rattle.lines.specs.Stores.{storeOf};
 ghost use Rattle.conversation.specs.Conversation.{unlessDone, hasRun};
-ghost use Rattle.conversation.specs.Code.{deskOf, laid, toldOf, asked, lineAlone, effect};
+ghost use Rattle.conversation.specs.Code.{deskOf, laid, toldOf};
 
 // The 82 line of a refusal; a line that was done prints nothing.
 fn put_unless_done(out: &mut [u8], at: usize, number: u32, refusal: u32) -> usize
@@ -30,91 +26,53 @@ fn put_unless_done(out: &mut [u8], at: usize, number: u32, refusal: u32) -> usiz
     put_refused(out, at, refusal, number)
 }
 
-// A line of kind 02 or a bad line; of any other only the frame.
-pub fn tell_alone(line: &[u8], number: u32, m: &mut [u8], out: &mut [u8], at: usize) -> Alone
-    ensures { λ r. ⌜ effect r (now (m .exit)) (now (out .exit)) ≡ lineAlone number (now (line .entry)) (now (m .entry)) (output (now (out .entry)) at) ⌝ }
-{
-    let f = parse(line);
-    match f {
-        Frame::Store(address) => {
-            let refusal = store(line, m, address);
-            Alone::Done(put_unless_done(out, at, number, refusal))
-        }
-        Frame::Bad => Alone::Done(put_refused(out, at, 7, number)),
-        Frame::Set(_, _) => Alone::Asks(f),
-        Frame::Run(_, _) => Alone::Asks(f),
-        Frame::Confined(_, _) => Alone::Asks(f),
-    }
-}
-
 // Frame 01.
 fn tell_set(
-    machine: Machine,
+    r: &mut [u32; 17],
     place: u32,
     value: u32,
     number: u32,
     out: &mut [u8],
     at: usize,
-) -> Told
-    ensures { λ r. ⌜ (cpuOf (r .machine) ≡ cpu (setRegister (bankOf machine) place value .bank) (quadsOf (machine .cache)))
-        × (output (now (out .exit)) (r .place) ≡ printed (unlessDone number (setRegister (bankOf machine) place value .refusal)) (output (now (out .entry)) at)) ⌝ }
+) -> usize
+    ensures { λ x. ⌜ (now (r .exit) ≡ setRegister (now (r .entry)) place value .bank)
+        × (output (now (out .exit)) x ≡ printed (unlessDone number (setRegister (now (r .entry)) place value .refusal)) (output (now (out .entry)) at)) ⌝ }
 {
-    let s = set_register(machine, place, value);
-    let next = put_unless_done(out, at, number, s.refusal);
-    let left = s.machine;
-    Told {
-        machine: left,
-        place: next,
-    }
+    let refusal = set_register(r, place, value);
+    put_unless_done(out, at, number, refusal)
+}
+
+// Frame 02.
+fn tell_store(
+    line: &[u8],
+    m: &mut [u8],
+    address: u32,
+    number: u32,
+    out: &mut [u8],
+    at: usize,
+) -> usize
+    ensures { λ x. ⌜ (now (m .exit) ≡ storeOf (now (line .entry)) (now (m .entry)) address .memory)
+        × (output (now (out .exit)) x ≡ printed (unlessDone number (storeOf (now (line .entry)) (now (m .entry)) address .refusal)) (output (now (out .entry)) at)) ⌝ }
+{
+    let refusal = store(line, m, address);
+    put_unless_done(out, at, number, refusal)
 }
 
 // Frames 03 and 04.
 fn tell_run(
     m: &mut [u8],
-    machine: Machine,
+    q: &mut [[u32; 4]; 16],
+    r: &mut [u32; 17],
     confined: bool,
     budget: u32,
     level: u32,
     out: &mut [u8],
     at: usize,
-) -> Told
-    ensures { λ r. ⌜ deskOf (r .machine) (now (m .exit)) (now (out .exit)) (r .place) ≡ laid (hasRun (runOf confined budget level (board (cpuOf machine) (now (m .entry))))) (output (now (out .entry)) at) ⌝ }
+) -> usize
+    ensures { λ x. ⌜ deskOf (cpu (now (r .exit)) (now (q .exit))) (now (m .exit)) (now (out .exit)) x ≡ laid (hasRun (runOf confined budget level (board (cpu (now (r .entry)) (now (q .entry))) (now (m .entry))))) (output (now (out .entry)) at) ⌝ }
 {
-    let e = run(m, machine, confined, budget, level);
-    let left = e.machine;
-    let pc = read_register(left, 6);
-    let psw = read_register(left, 7);
-    let next = put_ran(out, at, e.steps, e.stop, e.code, pc.value, psw.value);
-    Told {
-        machine: left,
-        place: next,
-    }
-}
-
-// A frame that asks for the machine.
-pub fn tell_asked(
-    f: Frame,
-    number: u32,
-    m: &mut [u8],
-    machine: Machine,
-    out: &mut [u8],
-    at: usize,
-) -> Told
-    ensures { λ r. ⌜ deskOf (r .machine) (now (m .exit)) (now (out .exit)) (r .place) ≡ laid (asked number (board (cpuOf machine) (now (m .entry))) f) (output (now (out .entry)) at) ⌝ }
-{
-    match f {
-        Frame::Set(place, value) => tell_set(machine, place, value, number, out, at),
-        Frame::Run(budget, level) => tell_run(m, machine, false, budget, level, out, at),
-        Frame::Confined(budget, level) => tell_run(m, machine, true, budget, level, out, at),
-        Frame::Store(_) => Told {
-            machine: machine,
-            place: at,
-        },
-        Frame::Bad => Told {
-            machine: machine,
-            place: at,
-        },
-    }
+    let e = run_lent(m, q, r, confined, budget, level);
+    put_ran(out, at, e.steps, e.stop, e.code, r[5], r[6])
 }
 
 // One line.
@@ -122,17 +80,18 @@ pub fn tell(
     line: &[u8],
     number: u32,
     m: &mut [u8],
-    machine: Machine,
+    q: &mut [[u32; 4]; 16],
+    r: &mut [u32; 17],
     out: &mut [u8],
     at: usize,
-) -> Told
-    ensures { λ r. ⌜ deskOf (r .machine) (now (m .exit)) (now (out .exit)) (r .place) ≡ toldOf number (now (line .entry)) (deskOf machine (now (m .entry)) (now (out .entry)) at) ⌝ }
+) -> usize
+    ensures { λ x. ⌜ deskOf (cpu (now (r .exit)) (now (q .exit))) (now (m .exit)) (now (out .exit)) x ≡ toldOf number (now (line .entry)) (deskOf (cpu (now (r .entry)) (now (q .entry))) (now (m .entry)) (now (out .entry)) at) ⌝ }
 {
-    match tell_alone(line, number, m, out, at) {
-        Alone::Done(next) => Told {
-            machine: machine,
-            place: next,
-        },
-        Alone::Asks(f) => tell_asked(f, number, m, machine, out, at),
+    match parse(line) {
+        Frame::Set(place, value) => tell_set(r, place, value, number, out, at),
+        Frame::Store(address) => tell_store(line, m, address, number, out, at),
+        Frame::Run(budget, level) => tell_run(m, q, r, false, budget, level, out, at),
+        Frame::Confined(budget, level) => tell_run(m, q, r, true, budget, level, out, at),
+        Frame::Bad => put_refused(out, at, 7, number),
     }
 }

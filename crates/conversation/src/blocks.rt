@@ -1,20 +1,52 @@
 // A block of input: each line that ends in it answered, in order.
-use crate::Alone;
 use crate::Talk;
-use crate::answers::tell_alone;
-use crate::answers::tell_asked;
-use machine::Machine;
+use crate::answers::tell;
 ghost use mathlib.Core.Path.{_≡_};
-ghost use Prim.Native.Nat.{_+_};
-ghost use lib.ListN.{drop};
+ghost use Prim.Native.Nat.{_+_, _≤_};
+ghost use lib.Dec.{leb};
+ghost use lib.ListN.{length, drop};
+ghost use Rattle.machine.specs.Status.{cpu};
 ghost use Rattle.conversation.specs.Code.{deskOf};
 ghost use Rattle.conversation.specs.Blocks.{newlineAt, talked, blockTold};
 
+// Whether none of eight bytes is a newline, without a branch between them: the compiler takes them at once.
+fn none_in_eight(text: &[u8], i: usize) -> bool
+    requires { ⌜ i + 8 ≤ length (now text) ⌝ }
+    ensures { λ r. ⌜ r ≡ leb 8 (newlineAt (drop i (now (text .entry)))) ⌝ }
+{
+    (text[i] != b'\n')
+        & (text[i + 1] != b'\n')
+        & (text[i + 2] != b'\n')
+        & (text[i + 3] != b'\n')
+        & (text[i + 4] != b'\n')
+        & (text[i + 5] != b'\n')
+        & (text[i + 6] != b'\n')
+        & (text[i + 7] != b'\n')
+}
+
+// A place up to the first newline from a place on, fewer than eight bytes before it where as many follow.
+fn skip(text: &[u8], from: usize) -> usize
+    requires { ⌜ from ≤ length (now text) ⌝ }
+    ensures { λ r. ⌜ (r ≤ length (now (text .entry))) × (r + newlineAt (drop r (now (text .entry))) ≡ from + newlineAt (drop from (now (text .entry)))) ⌝ }
+{
+    let n = text.len();
+    let mut i = from;
+    while 8 <= n - i {
+        if none_in_eight(text, i) {
+            i = i + 8;
+        } else {
+            return i;
+        }
+    }
+    i
+}
+
 // The place of the first newline from a place on, or the end.
 fn newline(text: &[u8], from: usize) -> usize
+    requires { ⌜ from ≤ length (now text) ⌝ }
     ensures { λ r. ⌜ r ≡ from + newlineAt (drop from (now (text .entry))) ⌝ }
 {
-    let mut i = from;
+    let mut i = skip(text, from);
     while i < text.len() {
         if text[i] == b'\n' {
             return i;
@@ -25,35 +57,27 @@ fn newline(text: &[u8], from: usize) -> usize
 }
 
 // The lines of a block after line `number`; their answers fill the buffer from its start.
-pub fn tell_block(text: &[u8], number: u32, m: &mut [u8], machine: Machine, out: &mut [u8]) -> Talk
-    ensures { λ r. ⌜ talked (deskOf (r .machine) (now (m .exit)) (now (out .exit)) (r .place)) (r .last) (r .rest) ≡ blockTold number (now (text .entry)) (deskOf machine (now (m .entry)) (now (out .entry)) 0) ⌝ }
+pub fn tell_block(
+    text: &[u8],
+    number: u32,
+    m: &mut [u8],
+    q: &mut [[u32; 4]; 16],
+    r: &mut [u32; 17],
+    out: &mut [u8],
+) -> Talk
+    ensures { λ x. ⌜ talked (deskOf (cpu (now (r .exit)) (now (q .exit))) (now (m .exit)) (now (out .exit)) (x .place)) (x .last) (x .rest) ≡ blockTold number (now (text .entry)) (deskOf (cpu (now (r .entry)) (now (q .entry))) (now (m .entry)) (now (out .entry)) 0) ⌝ }
 {
-    let mut left = machine;
     let mut place = 0;
     let mut last = number;
     let mut from = 0;
     let mut to = newline(text, 0);
     while to < text.len() {
         last = std::num::wrapping_add_u32(last, 1);
-        let after = to + 1;
-        let end = newline(text, after);
-        match tell_alone(&text[from..to], last, m, out, place) {
-            Alone::Done(next) => {
-                place = next;
-                from = after;
-                to = end;
-            }
-            Alone::Asks(f) => {
-                let t = tell_asked(f, last, m, left, out, place);
-                left = t.machine;
-                place = t.place;
-                from = after;
-                to = end;
-            }
-        }
+        place = tell(&text[from..to], last, m, q, r, out, place);
+        from = to + 1;
+        to = newline(text, from);
     }
     Talk {
-        machine: left,
         place: place,
         last: last,
         rest: from,

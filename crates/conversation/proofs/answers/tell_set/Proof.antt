@@ -1,5 +1,4 @@
-use Rattle.machine.proofs.Sizes.{registers-13}
-use Rattle.conversation.proofs.TellLaws.{set-machine, set-printed}
+use Rattle.conversation.proofs.TellLaws.{set-told}
 use borrow.Author.Needs.{needs}
 use Rattle.conversation.proofs.answers.tell_set.Statement.{statement}
 use Rattle.conversation.proofs.answers.tell_set.Tie as tie
@@ -14,7 +13,7 @@ same-length : tie.Need-same-length
 same-length c = search needs
 
 returns : tie.Need-returns
-returns c = let m = c .before .before .before .before .before .before .before .args .machine in let h = registers-13 m _ (c .before .before .before .before .before .before .before .good .0) in let e = c .before .before .before .before .before .set-register .ensures in (set-machine m _ _ _ h e, set-printed m _ _ _ h e _ _ _ (c .before .before .before .put-unless-done .ensures))
+returns c = set-told _ _ _ _ _ _ _ _ (c .before .before .before .before .set-register .ensures) (c .before .before .put-unless-done .ensures)
 
 pub tell-set-spec : {M : Type 1} → statement M
 tell-set-spec =

@@ -1,6 +1,6 @@
-use Prim.Native.Nat.{_-_}
+use Rattle.conversation.proofs.BlockLaws.{Seeking, seeking-found, seeking-more, seeking-end}
 use lib.ListN.{length}
-use Rattle.conversation.proofs.BlockLaws.{Seeking, seeking-none, seeking-found, seeking-more, seeking-end}
+use Prim.Native.Nat.{_-_}
 use borrow.Author.Needs.{needs}
 use Rattle.conversation.proofs.blocks.newline.Statement.{statement}
 use Rattle.conversation.proofs.blocks.newline.Tie as tie
@@ -11,8 +11,11 @@ Inv-loop text from i₀ i = Seeking text from i
 abbrev μ-loop : tie.MeasureT-loop
 μ-loop text from i₀ i = length text - i
 
+skip-requires : tie.Need-skip-requires Inv-loop μ-loop
+skip-requires c κs = search needs
+
 loop-holds : tie.Need-loop-holds Inv-loop μ-loop
-loop-holds c = search (needs, seeking-none)
+loop-holds c = record { upto = c .skip .ensures .0; sums = c .skip .ensures .1 }
 
 shared-slice-read-if1 : tie.Need-shared-slice-read-if1 Inv-loop μ-loop
 shared-slice-read-if1 c = search needs
@@ -38,6 +41,7 @@ newline-spec =
     (tie.spec
     Inv-loop
     μ-loop
+    skip-requires
     loop-holds
     shared-slice-read-if1
     returns
