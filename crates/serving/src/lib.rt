@@ -5,8 +5,8 @@ mod blocks;
 use crate::blocks::carry;
 use conversation::answers::tell;
 use conversation::blocks::tell_block;
-use machine::Machine;
-use machine::record::start;
+use machine::record::start_bank;
+use machine::record::start_cache;
 ghost use Prim.Native.Nat.{_+_, _≤_};
 ghost use lib.ListN.{length};
 
@@ -37,13 +37,14 @@ fn finish(
     end: usize,
     last: u32,
     memory: &mut [u8],
-    machine: Machine,
+    quads: &mut [[u32; 4]; 16],
+    bank: &mut [u32; 17],
     out: &mut [u8],
 ) {
     if 0 < end && end <= block.len() {
         let number = std::num::wrapping_add_u32(last, 1);
-        let t = tell(&block[0..end], number, memory, machine, out, 0);
-        flush(out, t.place);
+        let at = tell(&block[0..end], number, memory, quads, bank, out, 0);
+        flush(out, at);
     }
 }
 
@@ -55,7 +56,8 @@ pub fn serve() {
     let memory: &mut [u8] = &mut memory_space;
     let block: &mut [u8] = &mut block_space;
     let out: &mut [u8] = &mut out_space;
-    let mut machine = start();
+    let mut quads = start_cache();
+    let mut bank = start_bank();
     let mut last = 0;
     let mut have = 0;
     // A proved loop has to end: it counts down from a number that no run uses up.
@@ -63,14 +65,13 @@ pub fn serve() {
     while 0 < turns {
         let n = read_more(block, have);
         if n == 0 {
-            finish(block, have, last, memory, machine, out);
+            finish(block, have, last, memory, &mut quads, &mut bank, out);
             return;
         }
         let end = have + n;
-        let t = tell_block(&block[0..end], last, memory, machine, out);
+        let t = tell_block(&block[0..end], last, memory, &mut quads, &mut bank, out);
         flush(out, t.place);
         have = carry(block, t.rest, end);
-        machine = t.machine;
         last = t.last;
         turns = turns - 1;
     }

@@ -8,11 +8,11 @@ use Rattle.serving.proofs.serve.Statement.{statement}
 use Rattle.serving.proofs.serve.Tie as tie
 
 abbrev Inv-loop : tie.InvT-loop
-Inv-loop memory₀ block₀ out₀ machine₀ last₀ have₀ turns₀ memory block out machine last have turns =
+Inv-loop memory₀ block₀ out₀ quads₀ bank₀ last₀ have₀ turns₀ memory block out quads bank last have turns =
     (length block ≡ 32768) × (have ≤ 75)
 
 abbrev μ-loop : tie.MeasureT-loop
-μ-loop memory₀ block₀ out₀ machine₀ last₀ have₀ turns₀ memory block out machine last have turns = turns
+μ-loop memory₀ block₀ out₀ quads₀ bank₀ last₀ have₀ turns₀ memory block out quads bank last have turns = turns
 
 slice-aggregate-memory : tie.Need-slice-aggregate-memory Inv-loop μ-loop
 slice-aggregate-memory c = search needs
@@ -23,8 +23,11 @@ slice-aggregate-block c = search needs
 slice-aggregate-out : tie.Need-slice-aggregate-out Inv-loop μ-loop
 slice-aggregate-out c = search needs
 
-start-requires : tie.Need-start-requires Inv-loop μ-loop
-start-requires c κs = search needs
+start-cache-requires : tie.Need-start-cache-requires Inv-loop μ-loop
+start-cache-requires c κs = search needs
+
+start-bank-requires : tie.Need-start-bank-requires Inv-loop μ-loop
+start-bank-requires c κs = search needs
 
 loop-holds : tie.Need-loop-holds Inv-loop μ-loop
 loop-holds c = search needs
@@ -80,7 +83,8 @@ serve-spec =
     slice-aggregate-memory
     slice-aggregate-block
     slice-aggregate-out
-    start-requires
+    start-cache-requires
+    start-bank-requires
     loop-holds
     read-more-requires
     finish-requires
