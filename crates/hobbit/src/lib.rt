@@ -9,11 +9,10 @@ use machine::assign::set_register;
 use machine::cache::quads;
 use machine::record::bank;
 use machine::record::machine_of;
-use machine::record::start;
+use machine::record::start_bank;
 use runs::running::run;
 use runs::running::step;
 ghost use mathlib.Core.Path.{_≡_};
-ghost use lib.ListN.{replicate};
 ghost use Rattle.machine.specs.Registers.{startBank, setting, setRegister};
 ghost use Rattle.machine.specs.Cache.{quadsOf};
 ghost use Rattle.machine.specs.Status.{cpu};
@@ -87,10 +86,8 @@ pub extern "C" fn hobbit_step(
 pub extern "C" fn hobbit_start(registers: &mut [u32; 17], cache: &mut [u32; 64])
     ensures { λ _. ⌜ cpu (now (registers .exit)) (quadsOf (now (cache .exit))) ≡ cpu startBank zeroCache ⌝ }
 {
-    let m = start();
-    let words = m.cache;
-    *registers = bank(m);
-    *cache = words;
+    *registers = start_bank();
+    *cache = [0; 64];
 }
 
 // The register at a place of Table 1-1 set to a word: 0, or refusal 2 and the registers as they were.
@@ -99,10 +96,8 @@ pub extern "C" fn hobbit_set(registers: &mut [u32; 17], place: u32, value: u32) 
     ensures { λ x. ⌜ setting x (now (registers .exit)) ≡ setRegister (bankIn (now (registers .entry))) place value ⌝ }
 {
     let zeros = [0u32; 64];
-    let s = set_register(machine_in(registers, &zeros), place, value);
-    let left = s.machine;
-    *registers = bank(left);
-    s.refusal
+    *registers = bank(machine_in(registers, &zeros));
+    set_register(registers, place, value)
 }
 
 // A register read: 0 and its word, or refusal 2 and 0.
@@ -115,10 +110,9 @@ pub struct HobbitWord {
 // The register at a place of Table 1-1.
 #[no_mangle]
 pub extern "C" fn hobbit_get(registers: &[u32; 17], place: u32) -> HobbitWord
-    ensures { λ x. ⌜ reading (x .refusal) (x .value) ≡ readingOf (machineIn (now (registers .entry)) (replicate 64 0)) place ⌝ }
+    ensures { λ x. ⌜ reading (x .refusal) (x .value) ≡ readingOf (now (registers .entry)) place ⌝ }
 {
-    let zeros = [0u32; 64];
-    let x = read_register(machine_in(registers, &zeros), place);
+    let x = read_register(registers, place);
     HobbitWord {
         refusal: x.refusal,
         value: x.value,
