@@ -4,10 +4,9 @@ use Prim.Native.Nat.{ℕ}
 use mathlib.Core.Path.{_≡_, sym, ap, _∙_}
 use mathlib.Core.List.{List, [], _∷_}
 use Rattle.memory.specs.Bytes.{Memory}
-use Rattle.machine.specs.declared.Machine.{Machine}
-use Rattle.machine.specs.Record.{cpuOf}
+use Rattle.machine.specs.Status.{Cpu}
 use Rattle.run.specs.Run.{Board, board, Ended}
-use Rattle.runs.specs.Code.{endedOf}
+use Rattle.runs.specs.Code.{stoppedAt}
 use Rattle.isolation.specs.Course.{Order, confined, Report, report}
 use Rattle.isolation.specs.Isolation.{Same, SameRun, SameRuns}
 use Rattle.isolation.proofs.Runs.{isolation}
@@ -15,8 +14,8 @@ use Rattle.confinement.specs.Confinement.{Answers, Outcome, Answered, Sa
 
 module _ (H : ℕ → Type 0) (a₀ b₀ : Board) where
   -- one run on both sides, by what the code answered
-  outcome : (o : Order) (a b : Machine) (m n : Memory) (x y : Outcome) → Answers a m o (x .answer) (x .memory) → Answers b n o (y .answer) (y .memory)
-      → SameRun H a₀ b₀ o (board (cpuOf a) m) (board (cpuOf b) n) → SameOutcome H (a₀ .memory) (b₀ .memory) x y
+  outcome : (o : Order) (a b : Cpu) (m n : Memory) (x y : Outcome) → Answers a m o x → Answers b n o y
+      → SameRun H a₀ b₀ o (board a m) (board b n) → SameOutcome H (a₀ .memory) (b₀ .memory) x y
   outcome o a b m n x y f g s =
       record {
         steps = ap (λ (r : Report). r .steps) reports;
@@ -28,26 +27,26 @@ module _ (H : ℕ → Type 0) (a₀ b₀ : Board) where
         first-b = left .first-b;
       }
     where
-      reports : report (endedOf (x .answer) (x .memory)) ≡ report (endedOf (y .answer) (y .memory))
+      reports : report (stoppedAt (x .answer) (board (x .machine) (x .memory))) ≡ report (stoppedAt (y .answer) (board (y .machine) (y .memory)))
       reports = ap (λ (e : Ended). report e) f ∙ s .answer ∙ ap (λ (e : Ended). report e) (sym g)
 
-      left : Same H a₀ b₀ (board (cpuOf (x .answer .machine)) (x .memory)) (board (cpuOf (y .answer .machine)) (y .memory))
+      left : Same H a₀ b₀ (board (x .machine) (x .memory)) (board (y .machine) (y .memory))
       left = rw (ap (λ (e : Ended). e .left) f, ap (λ (e : Ended). e .left) g) (s .left)
 
-  outcomes : (os : List Order) (a b : Machine) (m n : Memory) (xs ys : List Outcome) → Answered a m os xs → Answered b n os ys
-      → SameRuns H a₀ b₀ os (board (cpuOf a) m) (board (cpuOf b) n) → SameOutcomes H (a₀ .memory) (b₀ .memory) xs ys
+  outcomes : (os : List Order) (a b : Cpu) (m n : Memory) (xs ys : List Outcome) → Answered a m os xs → Answered b n os ys
+      → SameRuns H a₀ b₀ os (board a m) (board b n) → SameOutcomes H (a₀ .memory) (b₀ .memory) xs ys
   outcomes [] a b m n [] [] f g s = tt
   outcomes [] a b m n [] (y ∷ ys) f g s = absurd g
   outcomes [] a b m n (x ∷ xs) ys f g s = absurd f
   outcomes (o ∷ os) a b m n [] ys f g s = absurd f
   outcomes (o ∷ os) a b m n (x ∷ xs) [] f g s = absurd g
   outcomes (o ∷ os) a b m n (x ∷ xs) (y ∷ ys) f g s =
-      (outcome o a b m n x y (f .0) (g .0) (s .0), outcomes os (x .answer .machine) (y .answer .machine) (x .memory) (y .memory) xs ys (f .1) (g .1) (moved (s .1)))
+      (outcome o a b m n x y (f .0) (g .0) (s .0), outcomes os (x .machine) (y .machine) (x .memory) (y .memory) xs ys (f .1) (g .1) (moved (s .1)))
     where
-      moved : SameRuns H a₀ b₀ os (confined o (board (cpuOf a) m) .left) (confined o (board (cpuOf b) n) .left)
-          → SameRuns H a₀ b₀ os (board (cpuOf (x .answer .machine)) (x .memory)) (board (cpuOf (y .answer .machine)) (y .memory))
+      moved : SameRuns H a₀ b₀ os (confined o (board a m) .left) (confined o (board b n) .left)
+          → SameRuns H a₀ b₀ os (board (x .machine) (x .memory)) (board (y .machine) (y .memory))
       moved r = rw (ap (λ (e : Ended). e .left) (f .0), ap (λ (e : Ended). e .left) (g .0)) r
 
 pub confinement : Confinement
 confinement H a b m n apart os xs ys f g =
-    outcomes H (board (cpuOf a) m) (board (cpuOf b) n) os a b m n xs ys f g (isolation H (board (cpuOf a) m) (board (cpuOf b) n) apart os)
+    outcomes H (board a m) (board b n) os a b m n xs ys f g (isolation H (board a m) (board b n) apart os)

@@ -1,41 +1,42 @@
--- Demand 3 as a statement about the code: what `runs::running::run` answers to every list of confined runs, by its contract.
+-- Demand 3 as a statement about the code: what `runs::running::run_lent`, which is frame 04, answers to every list of
+-- confined runs, by its contract.
 -- Assumes nothing.
 use Prim.Native.Nat.{ℕ}
 use mathlib.Core.Path.{_≡_}
 use mathlib.Core.Bool.{true}
 use mathlib.Core.List.{List, [], _∷_}
 use Rattle.memory.specs.Bytes.{Memory}
-use Rattle.machine.specs.declared.Machine.{Machine}
-use Rattle.machine.specs.Record.{cpuOf}
+use Rattle.machine.specs.Status.{Cpu}
 use Rattle.run.specs.Run.{board, run}
-use Rattle.runs.specs.declared.running.Ran.{Ran}
-use Rattle.runs.specs.Code.{endedOf}
+use Rattle.runs.specs.declared.running.Stopped.{Stopped}
+use Rattle.runs.specs.Code.{stoppedAt}
 use Rattle.isolation.specs.Sealed.{Agree, Kept}
 use Rattle.isolation.specs.Course.{Order}
 use Rattle.isolation.specs.Isolation.{Apart}
 
--- the contract of the code at a confined run: the answer x, with the memory l after it, of a machine on the memory m
-abbrev pub Answers : Machine → Memory → Order → Ran → Memory → Type 0
-Answers begun m o x l = endedOf x l ≡ run true (o .budget) (o .level) (board (cpuOf begun) m)
-
--- an answer with the memory that the run left
+-- what a run left: its answer, the lent bank and cache, the lent memory
 pub record Outcome : Type 0 where
-  pub answer : Ran
+  pub answer : Stopped
+  pub machine : Cpu
   pub memory : Memory
 
+-- the contract of the code at a confined run of a machine on the memory m
+abbrev pub Answers : Cpu → Memory → Order → Outcome → Type 0
+Answers c m o x = stoppedAt (x .answer) (board (x .machine) (x .memory)) ≡ run true (o .budget) (o .level) (board c m)
+
 -- the outcomes of a list of runs: each later one gets the machine and the memory that the last one left
-abbrev pub Answered : Machine → Memory → List Order → List Outcome → Type 0
-Answered begun m [] [] = Unit {0}
-Answered begun m [] (x ∷ xs) = ⊥
-Answered begun m (o ∷ os) [] = ⊥
-Answered begun m (o ∷ os) (x ∷ xs) = Answers begun m o (x .answer) (x .memory) × Answered (x .answer .machine) (x .memory) os xs
+abbrev pub Answered : Cpu → Memory → List Order → List Outcome → Type 0
+Answered c m [] [] = Unit {0}
+Answered c m [] (x ∷ xs) = ⊥
+Answered c m (o ∷ os) [] = ⊥
+Answered c m (o ∷ os) (x ∷ xs) = Answers c m o x × Answered (x .machine) (x .memory) os xs
 
 -- two outcomes tell nothing of the hidden pages, and each side's hidden pages hold the bytes of m and of n
 pub record SameOutcome (Hidden : ℕ → Type 0) (m n : Memory) (x y : Outcome) : Type 0 where
   pub steps : x .answer .steps ≡ y .answer .steps
   pub stop : x .answer .stop ≡ y .answer .stop
   pub code : x .answer .code ≡ y .answer .code
-  pub registers : cpuOf (x .answer .machine) ≡ cpuOf (y .answer .machine)
+  pub registers : x .machine ≡ y .machine
   pub others : Agree Hidden (x .memory) (y .memory)
   pub first-a : Kept Hidden m (x .memory)
   pub first-b : Kept Hidden n (y .memory)
@@ -49,5 +50,5 @@ SameOutcomes Hidden m n (x ∷ xs) (y ∷ ys) = SameOutcome Hidden m n x y × Sa
 -- for every two machines and memories that are equal but for hidden pages, and every list of confined runs
 abbrev pub Confinement : Type 1
 Confinement =
-    (Hidden : ℕ → Type 0) (a b : Machine) (m n : Memory) → Apart Hidden (board (cpuOf a) m) (board (cpuOf b) n)
+    (Hidden : ℕ → Type 0) (a b : Cpu) (m n : Memory) → Apart Hidden (board a m) (board b n)
     → (os : List Order) (xs ys : List Outcome) → Answered a m os xs → Answered b n os ys → SameOutcomes Hidden m n xs ys
