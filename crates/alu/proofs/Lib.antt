@@ -2,4 +2,3 @@ pub mod Laws
 pub mod ModeLaws
 pub mod PswLaws
 pub mod ResultLaws
-pub mod TimerLaws

@@ -1,9 +1,8 @@
-// What instructions compute, without memory: results and flags, operands, the timers' tests.
+// What instructions compute, without memory: results and flags, operands.
 pub mod modes;
 pub mod operations;
 pub mod psw;
 pub mod results;
-pub mod timers;
 
 // Where the operand of a mode is: at an address, at a stack offset, where the word there points, or in the instruction.
 pub enum OperandKind {

@@ -1,10 +1,9 @@
 // Bits of the PSW (Table 1-8), as numbers.
 use bits::bit;
-use bits::field;
 use bits::set_bit;
 ghost use mathlib.Core.Path.{_≡_};
 ghost use Prim.Native.Nat.{_*_, _/_, _%_, _^_};
-ghost use Rattle.bits.specs.Bits.{bitOf, fieldOf};
+ghost use Rattle.bits.specs.Bits.{bitOf};
 ghost use Rattle.exec.specs.Alu.{digit as digitOf, withBitAs, flagBit};
 ghost use Rattle.alu.specs.Status.{testedOf};
 
@@ -41,11 +40,4 @@ pub fn masked(x: u32) -> u32
     ensures { λ r. ⌜ r ≡ x / 2 ^ 16 * 2 ^ 16 ⌝ }
 {
     x / 65536 * 65536
-}
-
-// The interrupt priority level.
-pub fn priority(x: u32) -> u32
-    ensures { λ r. ⌜ r ≡ fieldOf x 12 3 ⌝ }
-{
-    field(x, 12, 3)
 }

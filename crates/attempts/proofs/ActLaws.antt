@@ -28,7 +28,8 @@ use Rattle.exec.specs.Frames.{unimplementedSequence}
 use Rattle.exec.specs.Execute.{Normal, oneOperand, shortNormal, monadicOf, normal, Traced, traced, execute}
 use Rattle.rows.specs.declared.ShortForm.{ShortForm}
 use Rattle.rows.specs.declared.ShortForm.the-variants.{One}
-use Rattle.rows.specs.Rows.{formed, tracedFrom}
+use Rattle.rows.specs.Rows.{formed}
+use Rattle.pending.specs.Traces.{tracedFrom}
 use Rattle.step.specs.Step.{meets, vectored, finished, sequenced, act}
 use Rattle.run.specs.Run.{Tried, tried, isKcall, tryActed}
 use Rattle.attempts.specs.Code.{actOf, triedOut}

@@ -9,7 +9,7 @@ use Rattle.machine.specs.Registers.{Bank}
 use Rattle.machine.specs.Cache.{Cache}
 use Rattle.machine.specs.Status.{Cpu, cpu}
 use Rattle.access.specs.Parts.{Out, ok, stop, done, _>>=_}
-use Rattle.rows.specs.Rows.{tracedFrom}
+use Rattle.pending.specs.Traces.{tracedFrom}
 use Rattle.step.specs.Step.{Met, Acted, finished, sequenced, act, fetchInstruction}
 use Rattle.run.specs.Run.{Tried, tried, fetched, tryActed}
 

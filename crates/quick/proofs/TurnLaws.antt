@@ -18,8 +18,8 @@ use Rattle.step.specs.Events.{Due, none, dueOf, dueCode, looked}
 use Rattle.step.specs.Timers.{counted}
 use Rattle.step.specs.Step.{meets, Acted, finished, fetchInstruction, act, attempt, tracesAt, traceFalls, Stepped, stepped, finish, instructionStep, stepFor, step, timed, holdsStack}
 use Rattle.run.specs.Run.{board, goes, unlessLost, afterStep, turn, Tried, tried, tryActed, confinedAttempt, tryTurn, confinedFor, confinedTurn, turnOf}
-use Rattle.bank.specs.Dues.{dueFrom}
-use Rattle.bank.proofs.Laws.{due-known}
+use Rattle.pending.specs.Dues.{dueFrom}
+use Rattle.pending.proofs.Laws.{due-known}
 use Rattle.quick.specs.Quick.{gives}
 use Rattle.quick.specs.Performed.{Performed, Calm}
 use Rattle.quick.proofs.GiveLaws.{gives-then, gives-done, not-both, set-same}

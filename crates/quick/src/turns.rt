@@ -1,10 +1,10 @@
 // A turn of either kind of run in which nothing is due, no trace falls due and the stack is kept: a step, and its timers.
 use crate::instructions::quick_attempt;
-use bank::events::due_code;
-use bank::timers::counted;
 use bits::bit;
 use machine::registers::stack_held;
 use machine::status::is_user;
+use pending::events::due_code;
+use pending::timers::counted;
 ghost use mathlib.Core.Path.{_≡_};
 ghost use mathlib.Core.Bool.{Bool, true, false};
 ghost use Rattle.machine.specs.Status.{cpu};

@@ -1,11 +1,9 @@
--- One-parcel rows without their operands, and what tracing makes of an instruction, as a number.
+-- One-parcel rows without their operands.
 -- Assumes nothing.
 use Prim.Native.Nat.{ℕ}
-use mathlib.Core.Bool.{cond}
-use lib.Dec.{eqb}
 use Rattle.isa.specs.declared.Operand.the-variants.{General}
 use Rattle.isa.specs.declared.Wide.the-variants.{Five}
-use Rattle.exec.specs.Execute.{Normal, twoOperands, oneOperand, noOperand, Traced, always, atJumps, never}
+use Rattle.exec.specs.Execute.{Normal, twoOperands, oneOperand, noOperand}
 use Rattle.rows.specs.declared.ShortForm.{ShortForm}
 use Rattle.rows.specs.declared.ShortForm.the-variants.{Two, One, Zero}
 
@@ -14,6 +12,3 @@ abbrev pub formed : ShortForm → ℕ → ℕ → Normal
 formed (Two t a b) s d = twoOperands Five t (General a s) (General b d)
 formed (One o m) s d = oneOperand o m s
 formed (Zero o) s d = noOperand o
-
-abbrev pub tracedFrom : ℕ → Traced
-tracedFrom k = cond (eqb k 0) always (cond (eqb k 1) atJumps never)

@@ -1,6 +1,5 @@
-// What each row of the encodings lists does, without its encoding, and what tracing makes of it.
+// What each row of the encodings lists does, without its encoding.
 pub mod forms;
-pub mod tracing;
 
 use exec::Monadic;
 use exec::Niladic;

@@ -17,12 +17,12 @@ use Rattle.machine.specs.Registers.{Bank, word, config, psw}
 use Rattle.machine.specs.Cache.{Cache}
 use Rattle.machine.specs.Status.{Cpu, cpu, isUser}
 use Rattle.access.specs.Parts.{Out, ok, stop}
-use Rattle.rows.specs.Rows.{tracedFrom}
+use Rattle.pending.specs.Traces.{tracedFrom}
 use Rattle.step.specs.Events.{Due, trace, dueOf, dueCode, looked}
 use Rattle.step.specs.Timers.{counted}
 use Rattle.step.specs.Step.{finished, sequenced, tracesAt, traceFalls, Stepped, stepped, step, holdsStack}
 use Rattle.run.specs.Run.{Board, board, Turn, goes, ends, eventDue, unlessLost, afterStep, turn, Tried, tried, fetched, confinedAttempt, afterTry, tryTurn, confinedFor, confinedTurn, turnOf}
-use Rattle.bank.specs.Dues.{dueFrom}
+use Rattle.pending.specs.Dues.{dueFrom}
 use Rattle.control.proofs.FlowLaws.{Made}
 use Rattle.attempts.specs.Code.{attemptOf, triedOut}
 use Rattle.attempts.proofs.ActLaws.{answers-class, answers-stop}

@@ -1,17 +1,17 @@
 // One turn of a run: a step, or a stop. The journal holds what a step that loses its stack must put back; the lengths
 // required are those of the run's own arrays and of whole pages.
 use attempts::attempt::attempt;
-use bank::events::due_code;
-use bank::events::looked;
-use bank::events::trace_falls;
-use bank::timers::counted;
 use handler::journal::begin;
 use handler::journal::undo;
 use machine::registers::stack_held;
 use machine::status::is_user;
 use memory::answers::low32;
+use pending::events::due_code;
+use pending::events::looked;
+use pending::events::trace_falls;
+use pending::timers::counted;
+use pending::tracing::traces_at;
 use quick::turns::quick_turn;
-use rows::tracing::traces_at;
 use steps::stepping::step;
 ghost use mathlib.Core.Path.{_≡_};
 ghost use mathlib.Core.Bool.{not};

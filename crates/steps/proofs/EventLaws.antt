@@ -20,9 +20,9 @@ use Rattle.access.specs.Code.{ended}
 use Rattle.exec.specs.Frames.{interruptSequence, exceptionSequence, reset}
 use Rattle.step.specs.Events.{Due, none, interrupt, timer1, timer2, trace, isDue, priority, dueOf, dueCode, take}
 use Rattle.step.specs.Step.{stepped, settled, eventStep, exceptionStep, instructionStep, stepFor}
-use Rattle.bank.specs.Dues.{dueFrom, takenOf, vectorOf, isTrace}
-use Rattle.bank.proofs.EventLaws.{asked}
-use Rattle.bank.proofs.Laws.{due-known}
+use Rattle.pending.specs.Dues.{dueFrom, takenOf, vectorOf, isTrace}
+use Rattle.pending.proofs.EventLaws.{asked}
+use Rattle.pending.proofs.Laws.{due-known}
 use Rattle.control.proofs.FlowLaws.{Made}
 
 -- ---- what a sequence leaves

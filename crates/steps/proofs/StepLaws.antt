@@ -16,10 +16,10 @@ use Rattle.machine.specs.Registers.{Bank, word, psw}
 use Rattle.machine.specs.Cache.{Cache}
 use Rattle.machine.specs.Status.{Cpu, cpu}
 use Rattle.access.specs.Parts.{Out}
-use Rattle.rows.specs.Rows.{tracedFrom}
+use Rattle.pending.specs.Traces.{tracedFrom}
 use Rattle.step.specs.Events.{Due, dueOf, dueCode, looked}
 use Rattle.step.specs.Step.{Acted, attempt, tracesAt, traceFalls, Stepped, stepped, exceptionStep, eventStep, finish, instructionStep, stepFor, step}
-use Rattle.bank.specs.Dues.{dueFrom}
+use Rattle.pending.specs.Dues.{dueFrom}
 use Rattle.control.proofs.FlowLaws.{Made}
 use Rattle.attempts.specs.Code.{attemptOf, actedOut, triedOut}
 use Rattle.attempts.proofs.AttemptLaws.{events-attempted}

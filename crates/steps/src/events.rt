@@ -1,9 +1,9 @@
 // The sequence of an exception, and of what a look found due.
-use bank::events::taken;
-use bank::events::vector_of;
 use bank::frames::reset;
 use frames::sequences::exception_sequence;
 use frames::sequences::interrupt_sequence;
+use pending::events::taken;
+use pending::events::vector_of;
 ghost use mathlib.Core.Path.{_≡_};
 ghost use mathlib.Core.Bool.{false};
 ghost use Prim.Native.Nat.{_%_};
@@ -14,7 +14,7 @@ ghost use Rattle.program.specs.Journal.{journaled, logging};
 ghost use Rattle.machine.specs.Cache.{Cache};
 ghost use Rattle.machine.specs.Status.{cpu};
 ghost use Rattle.access.specs.Code.{ended};
-ghost use Rattle.bank.specs.Dues.{dueFrom};
+ghost use Rattle.pending.specs.Dues.{dueFrom};
 ghost use Rattle.step.specs.Step.{stepped, settled, eventStep, exceptionStep};
 
 // A sequence that met a fault on its stack or vector resets.

@@ -2,12 +2,12 @@
 use crate::events::event_step;
 use crate::events::exception_step;
 use attempts::attempt::attempt;
-use bank::events::due_code;
-use bank::events::looked;
-use bank::events::trace_falls;
 use bits::bit;
 use memory::answers::low32;
-use rows::tracing::traces_at;
+use pending::events::due_code;
+use pending::events::looked;
+use pending::events::trace_falls;
+use pending::tracing::traces_at;
 ghost use mathlib.Core.Path.{_≡_};
 ghost use Rattle.memory.specs.Answers.{answerOf};
 ghost use Rattle.program.specs.Access.{gave};

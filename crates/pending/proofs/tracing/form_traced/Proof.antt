@@ -1,0 +1,41 @@
+use Rattle.pending.proofs.TracedLaws.{two-traced, one-traced, none-traced}
+use borrow.Author.Needs.{needs}
+use Rattle.pending.proofs.tracing.form_traced.Statement.{statement}
+use Rattle.pending.proofs.tracing.form_traced.Tie as tie
+
+enum-told : tie.Need-enum-told
+enum-told c = search needs
+
+enum-known-f : tie.Need-enum-known-f
+enum-known-f c = search needs
+
+monadic-traced-requires : tie.Need-monadic-traced-requires
+monadic-traced-requires c κs = search needs
+
+enum-known-f-2 : tie.Need-enum-known-f-2
+enum-known-f-2 c = search needs
+
+niladic-traced-requires : tie.Need-niladic-traced-requires
+niladic-traced-requires c κs = search needs
+
+returns : tie.Need-returns
+returns c = λ s d. search (needs, two-traced)
+
+returns-2 : tie.Need-returns-2
+returns-2 c = λ s d. search (needs, one-traced)
+
+returns-3 : tie.Need-returns-3
+returns-3 c = λ s d. search (needs, none-traced)
+
+pub form-traced-spec : {M : Type 1} → statement M
+form-traced-spec =
+    tie.close
+    (tie.spec
+    enum-told
+    enum-known-f
+    monadic-traced-requires
+    enum-known-f-2
+    niladic-traced-requires
+    returns
+    returns-2
+    returns-3)

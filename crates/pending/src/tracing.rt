@@ -1,0 +1,95 @@
+// What tracing makes of an instruction (Table 1-8).
+use bits::bit;
+use exec::Monadic;
+use exec::Niladic;
+use isa::Instruction;
+use rows::ShortForm;
+use rows::forms::monadic_of;
+use rows::forms::short_form;
+ghost use mathlib.Core.Path.{_≡_};
+ghost use Prim.Native.Nat.{ℕ};
+ghost use Rattle.exec.specs.Execute.{normal, monadicTraced, niladicTraced, traced as tracedOf};
+ghost use Rattle.step.specs.Step.{tracesAt};
+ghost use Rattle.rows.specs.Rows.{formed};
+ghost use Rattle.pending.specs.Traces.{tracedFrom};
+
+// Traced by PSW bit 7; by bit 7 or 8, since it may jump; never.
+const ALWAYS: u32 = 0;
+
+const AT_JUMPS: u32 = 1;
+
+const NEVER: u32 = 2;
+
+fn monadic_traced(o: Monadic) -> u32
+    ensures { λ r. ⌜ tracedFrom r ≡ monadicTraced o ⌝ }
+{
+    match o {
+        Monadic::Kcall => NEVER,
+        Monadic::Call => AT_JUMPS,
+        Monadic::Return => AT_JUMPS,
+        Monadic::Jmp => AT_JUMPS,
+        Monadic::JmpFalse => AT_JUMPS,
+        Monadic::JmpTrue => AT_JUMPS,
+        Monadic::Catch => ALWAYS,
+        Monadic::Enter => ALWAYS,
+        Monadic::Ldraa => ALWAYS,
+        Monadic::Flush => ALWAYS,
+        Monadic::Popn => ALWAYS,
+    }
+}
+
+fn niladic_traced(o: Niladic) -> u32
+    ensures { λ r. ⌜ tracedFrom r ≡ niladicTraced o ⌝ }
+{
+    match o {
+        Niladic::Kret => NEVER,
+        Niladic::Cret => NEVER,
+        Niladic::Nop => ALWAYS,
+        Niladic::Testv => ALWAYS,
+        Niladic::Testc => ALWAYS,
+        Niladic::Clre => ALWAYS,
+    }
+}
+
+// One parcel, whatever its operands.
+fn form_traced(f: ShortForm) -> u32
+    ensures { λ r. ⌜ ((s d : ℕ) → tracedFrom r ≡ tracedOf (formed f s d)) ⌝ }
+{
+    match f {
+        ShortForm::Two(_, _, _) => ALWAYS,
+        ShortForm::One(o, _) => monadic_traced(o),
+        ShortForm::Zero(o) => niladic_traced(o),
+    }
+}
+
+// An instruction.
+pub fn traced(i: Instruction) -> u32
+    ensures { λ r. ⌜ tracedFrom r ≡ tracedOf (normal i) ⌝ }
+{
+    match i {
+        Instruction::Short(s) => {
+            let row = s.row;
+            form_traced(short_form(row))
+        }
+        Instruction::Dyadic(_) => ALWAYS,
+        Instruction::Monadic(m) => {
+            let row = m.row;
+            monadic_traced(monadic_of(row))
+        }
+    }
+}
+
+// Whether a trace falls due after an instruction that began with a PSW.
+pub fn traces_at(psw: u32, class: u32) -> bool
+    ensures { λ r. ⌜ r ≡ tracesAt psw (tracedFrom class) ⌝ }
+{
+    if class == ALWAYS {
+        bit(psw, 7)
+    } else {
+        if class == AT_JUMPS {
+            bit(psw, 7) | bit(psw, 8)
+        } else {
+            false
+        }
+    }
+}
