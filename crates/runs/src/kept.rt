@@ -1,10 +1,10 @@
 // One kept machine, advanced in its own storage: the stepping call of the operator's screen.
+use crate::running::step;
 use machine::Machine;
-use runs::running::step;
 ghost use mathlib.Core.Path.{_≡_};
 ghost use Rattle.machine.specs.Record.{cpuOf};
 ghost use Rattle.run.specs.Run.{board};
 ghost use Rattle.runs.specs.Code.{advancedBy, oneStep};
 
 // One step with the interrupt input at a level; 0, or the refusal that left machine and memory as they were.
 pub fn advance(m: &mut Machine, memory: &mut [u8], level: u32) -> u32

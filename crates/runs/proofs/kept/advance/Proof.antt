@@ -49,18 +49,18 @@ use Rattle.machine.specs.Record.{cpuOf}
 use Rattle.machine.proofs.Machine as T
 use Rattle.machine.proofs.Machine.Laws as T′
 use Rattle.run.specs.Run.{board}
 use Rattle.runs.specs.declared.running.Stepped.{Stepped}
 use Rattle.runs.specs.Code.{advancedBy, oneStep}
 use Rattle.runs.proofs.running.Stepped as S
 use Rattle.runs.proofs.running.Stepped.Laws as S′
 use Rattle.runs.proofs.running.step as step
 use Rattle.runs.proofs.running.step.Symbol as step-def
 use Rattle.runs.proofs.running.step.Symbol.{name as #runs·step}
 use Rattle.runs.proofs.running.step.Met as step-thm
-use Rattle.kept.proofs.advance.Key.{name as #kept·advance}
-use Rattle.kept.proofs.advance as f
-use Rattle.kept.proofs.advance.Statement as stated
-use Rattle.kept.proofs.advance.Code as code
+use Rattle.runs.proofs.kept.advance.Key.{name as #runs·kept·advance}
+use Rattle.runs.proofs.kept.advance as f
+use Rattle.runs.proofs.kept.advance.Statement as stated
+use Rattle.runs.proofs.kept.advance.Code as code
 
 abbrev stayed : Stays (f.ended .signature .params) (f.ended .kept)
 stayed = (stay-ref (0 ∷ []) tt (plain (λ _. T.the-row)), (gave-slice (1 ∷ []) tt (plain (λ _. u8)), (stay-none (λ _. u32) yes, tt)))
@@ -165,6 +165,6 @@ pub advance-spec : {M : Type 1} → stated.statement M
 unfolding code.routine tablesOf
 advance-spec 𝓤 H 𝓜 𝓖 𝓡 =
     entered 𝓤 H (tripleOf 𝓤 H (𝓖 .A) f.signature (f.spec 𝓤 H (𝓖 .A) (𝓜 .mem) (𝓡 .run)))
-    (tables 𝓤 H 𝓜 𝓡 code.env .C) (tables 𝓤 H 𝓜 𝓡 code.env .Λ) #kept·advance code.function (code.unfolded 𝓤 H 𝓜 𝓡)
+    (tables 𝓤 H 𝓜 𝓡 code.env .C) (tables 𝓤 H 𝓜 𝓡 code.env .Λ) #runs·kept·advance code.function (code.unfolded 𝓤 H 𝓜 𝓡)
     (advance-meets 𝓤 H (𝓖 .A) (givenOf 𝓤 H 𝓜 𝓖) (𝓜 .mem) (𝓡 .run) (tablesOf 𝓤 H 𝓜 (tables 𝓤 H 𝓜 𝓡 code.env))
     (cited 𝓤 H (Step 𝓤 H (𝓖 .A) (𝓜 .mem) (𝓡 .run)) 𝓜 𝓡 code.env #runs·step step-def.routine code.calls-runs·running·step (step-thm.met 𝓤 H 𝓜 𝓖 𝓡)))
