@@ -10,3 +10,4 @@ pub mod Unconfined
 mod Pages
 pub mod Witnesses
 mod Trial
+pub mod Confined

@@ -7,16 +7,11 @@ use Rattle.memory.specs.Bytes.{Memory}
 use Rattle.machine.specs.declared.Machine.{Machine}
 use Rattle.machine.specs.Record.{cpuOf}
 use Rattle.run.specs.Run.{Board, board, Turn, goes, ends, Ended, ended, run}
-use Rattle.runs.specs.declared.running.Stopped.{Stopped}
 use Rattle.runs.specs.declared.running.Ran.{Ran}
 
 -- 0 goes on; else 2 ^ 32 times the stop, and its code
 abbrev pub turned : ℕ → Board → Turn
 turned x s = cond (eqb x 0) (goes s) (ends (x / 2 ^ 32) (x % 2 ^ 32) s)
-
--- a run inside, with the board that it left
-abbrev pub stoppedAt : Stopped → Board → Ended
-stoppedAt x s = ended (x .steps) (x .stop) (x .code) s
 
 -- a run's answer with the memory that it left
 abbrev pub endedOf : Ran → Memory → Ended

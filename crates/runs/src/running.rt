@@ -8,22 +8,17 @@ use machine::registers::good_bank;
 use machine::status::is_user;
 use machine::status::is_virtual;
 use memory::places::whole_pages;
+use run::Stopped;
 ghost use mathlib.Core.Path.{_≡_};
 ghost use Prim.Native.Nat.{_%_};
 ghost use lib.ListN.{length};
 ghost use Rattle.machine.specs.Status.{cpu};
 ghost use Rattle.machine.specs.Record.{cpuOf};
 ghost use Rattle.run.specs.Run.{board, turnOf, advance as advanceOf, refusal as refusalOf, run as runOf};
-ghost use Rattle.runs.specs.Code.{stoppedAt, endedOf, advancedBy, oneStep};
+ghost use Rattle.run.specs.Stopping.{stoppedAt};
+ghost use Rattle.runs.specs.Code.{endedOf, advancedBy, oneStep};
 
-// Steps done, the stop and its code.
-pub struct Stopped {
-    pub steps: u32,
-    pub stop: u32,
-    pub code: u32,
-}
-
-// The same with the machine that is left.
+// Steps done, the stop and its code, with the machine that is left.
 pub struct Ran {
     pub machine: Machine,
     pub steps: u32,

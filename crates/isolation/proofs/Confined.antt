@@ -6,11 +6,11 @@ use mathlib.Core.List.{List, [], _∷_}
 use Rattle.memory.specs.Bytes.{Memory}
 use Rattle.machine.specs.Status.{Cpu}
 use Rattle.run.specs.Run.{Board, board, Ended}
-use Rattle.runs.specs.Code.{stoppedAt}
+use Rattle.run.specs.Stopping.{stoppedAt}
 use Rattle.isolation.specs.Course.{Order, confined, Report, report}
 use Rattle.isolation.specs.Isolation.{Same, SameRun, SameRuns}
+use Rattle.isolation.specs.Confinement.{Answers, Outcome, Answered, SameOutcome, SameOutcomes, Confinement}
 use Rattle.isolation.proofs.Runs.{isolation}
-use Rattle.confinement.specs.Confinement.{Answers, Outcome, Answered, SameOutcome, SameOutcomes, Confinement}
 
 module _ (H : ℕ → Type 0) (a₀ b₀ : Board) where
   -- one run on both sides, by what the code answered

@@ -8,11 +8,11 @@ use mathlib.Core.List.{List, [], _∷_}
 use Rattle.memory.specs.Bytes.{Memory}
 use Rattle.machine.specs.Status.{Cpu}
 use Rattle.run.specs.Run.{board, run}
-use Rattle.runs.specs.declared.running.Stopped.{Stopped}
-use Rattle.runs.specs.Code.{stoppedAt}
+use Rattle.run.specs.declared.Stopped.{Stopped}
+use Rattle.run.specs.Stopping.{stoppedAt}
 use Rattle.isolation.specs.Sealed.{Agree, Kept}
 use Rattle.isolation.specs.Course.{Order}
 use Rattle.isolation.specs.Isolation.{Apart}
 
 -- what a run left: its answer, the lent bank and cache, the lent memory
 pub record Outcome : Type 0 where
