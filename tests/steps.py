@@ -1,10 +1,9 @@
 #!/usr/bin/env python3
-"""Prints the input of crates/board_steps: single steps of every row of the encodings lists in every operand mode.
+"""Prints the first part of the input of crates/test_board: single steps of every row of the encodings lists in every
+operand mode. After it come long conversations of seven families and lines of every kind.
 
-    tests/steps.py >crates/board_steps/stdin
-
-The output is the same on every run. The file crates/board_steps/stdout is what a reference model of the machine answered
-to it, not what this board answers: a change here needs a new answer from such a model.
+The output is the same on every run. The file crates/test_board/stdout is what a reference model of the machine answered to
+the whole, not what this board answers: a change here needs a new answer from such a model.
 
 A case sets the registers that matter, runs PREPARE (a resident text that sets the stack pointers, copies the templates over
 data, stack and interrupt stack, and fills the stack cache), stores the parcels of one instruction and runs one step of it:
