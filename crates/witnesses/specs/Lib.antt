@@ -1,0 +1,7 @@
+pub mod Boards
+pub mod Decoding
+pub mod Machines
+pub mod Steps
+pub mod Cache
+pub mod Runs
+pub mod Lines

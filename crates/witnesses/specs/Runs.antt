@@ -1,0 +1,169 @@
+-- Wrong answers of a run, each on a small board on which the definition answers otherwise.
+-- Assumes nothing.
+use Prim.Native.Nat.{ℕ}
+use mathlib.Core.Bool.{Bool, true, false}
+use mathlib.Core.List.{List, [], _∷_}
+use lib.ListN.{replicate}
+use lib.Dec.{T}
+use Rattle.word.specs.Sums.{addOf}
+use Rattle.memory.specs.Bytes.{Memory, load, storeAnswer, storeMemory}
+use Rattle.isa.specs.Decode.{decodeShort, decodeDyadic, decodeMonadic, decodeThree, decodeWide, decodePrefixed, decodeBare, decodeOf}
+use Rattle.mmu.specs.Walk.{segmentOf, segment, nonpagedOf, pageOf, walkFrom, walk, route, marked, fresh, recorded}
+use Rattle.program.specs.Access.{touch, follow, access}
+use Rattle.program.specs.Program.{interpret, after}
+use Rattle.machine.specs.Registers.{goodBank, config, fault, msp, pc, psw, sp, timer2, traceDue, nmiTaken}
+use Rattle.machine.specs.Status.{Cpu, with}
+use Rattle.access.specs.Data.{readMemory, readData, writeMemory, writeData, checkStore}
+use Rattle.access.specs.Moves.{flush}
+use Rattle.access.specs.Parts.{onward, _>>=_, request, parcelRequest}
+use Rattle.access.specs.Text.{fetchParcel, fetchParcels, fetchAfter, fetchPrefixed, fetchText}
+use Rattle.exec.specs.Operands.{located, locate, readPlace, readOperand, writeRegister, writePlace, writeAccumulator, checkRegisters}
+use Rattle.exec.specs.Dyadic.{interlock, move, perform, dyadic}
+use Rattle.exec.specs.Stack.{stackTarget, checkMsp, enterOffset, enterAt, enter}
+use Rattle.exec.specs.Execute.{executeMonadic, executeNormal, execute}
+use Rattle.step.specs.Timers.{counted}
+use Rattle.step.specs.Step.{fetchInstruction, act, attempt, finish, instructionStep, step}
+use Rattle.run.specs.Run.{board, Ended, turn, tryActed, confinedAttempt, confinedTurn, advance, refusal, run}
+use Rattle.witnesses.specs.Boards.{is, all, page, pages, word, text, kernel, user, segmented, runs, confined, register, memoryWord}
+
+-- ---- refusals: memory of a byte less than a page, a reserved bit of PSW, level 8, kernel level
+
+abbrev pub oddPage : Memory
+oddPage = replicate 4095 0
+
+abbrev pub reserved : Cpu → Cpu
+reserved c = with c psw 8
+
+abbrev pub codeOf : Bool → ℕ → Cpu → Memory → ℕ
+codeOf confined level c m = run confined 1 level (board c m) .code
+
+unfoldable pub refusals : List Bool
+refusals =
+    -- tested in another order than 1, 2, 3, 9
+    is (codeOf true 8 (reserved kernel) oddPage) 1 2
+    ∷ is (codeOf true 8 (reserved kernel) page) 2 3
+    ∷ is (codeOf true 8 kernel page) 3 9
+    ∷ is (codeOf true 7 kernel page) 9 0
+    -- a confined run at user level without translation, and with it at kernel level
+    ∷ is (codeOf true 7 (with user psw 0x600) page) 9 0
+    ∷ is (codeOf true 7 (with user psw 0x1_0200) page) 9 0
+    -- a refused run that changes something: the mark of input 0, which a look at level 7 would clear
+    ∷ is (register (run true 1 7 (board (with kernel nmiTaken 1) page)) nmiTaken) 1 0
+    -- MSP out of its range
+    ∷ is (codeOf false 7 (with kernel msp 0x710) page) 2 0
+    ∷ is (codeOf false 7 (with kernel msp 0x5F0) page) 2 0
+    ∷ []
+
+-- ---- steps: "MOV 5, 16(CSP)" three times
+
+abbrev pub moving : Memory
+moving = text 0x100 (0x70A4 ∷ 0x70A4 ∷ 0x70A4 ∷ []) page
+
+-- "MOV 5, 16(CSP)", then "CPU MOV 0x710, MSP", which loses the stack
+abbrev pub losing : Ended
+losing = runs 3 kernel (text 0x100 (0x70A4 ∷ 0x2C00 ∷ 0xC6F7 ∷ 0 ∷ 0x710 ∷ 0 ∷ 1 ∷ []) page)
+
+-- "ENTER -32(SP)" at SP and MSP 0x10: the new SP is above MSP
+abbrev pub wrapping : Ended
+wrapping =
+    runs 1 (with (with (with (with kernel config 0x4_0000) psw 0x200) sp 0x10) msp 0x10) (text 0x100 (0x80D9 ∷ 0xFFFF ∷ 0xFFE0 ∷ []) page)
+
+-- "CPU MOV 0x04000000, CONFIG": Timer2 then counts an event that is not in Table 1-2
+abbrev pub configured : Ended
+configured = runs 1 kernel (text 0x100 (0x2C00 ∷ 0xC6F7 ∷ 0x400 ∷ 0 ∷ 0 ∷ 4 ∷ []) page)
+
+unfoldable pub steps : List Bool
+steps =
+    -- a budget that is looked at after an event: level 0 is due
+    is (run false 0 0 (board kernel moving) .steps) 0 1
+    ∷ is (register (run false 0 0 (board kernel moving)) pc) 0x100 0
+    -- a run making its whole effect in step one, or printing invented steps
+    ∷ is (runs 1 kernel moving .steps) 1 2
+    ∷ is (register (runs 1 kernel moving) pc) 0x102 0x104
+    ∷ is (runs 2 kernel moving .steps) 2 1
+    ∷ is (register (runs 2 kernel moving) pc) 0x104 0x102
+    -- a step that loses its stack kept, or counted, or the run going on after it
+    ∷ is (losing .stop) 1 0
+    ∷ is (losing .code) 4 0
+    ∷ is (losing .steps) 1 2
+    ∷ is (register losing pc) 0x102 0x10E
+    ∷ is (register losing msp) 0x600 0x710
+    ∷ is (wrapping .code) 4 0
+    ∷ is (register wrapping sp) 0x10 0xFFFF_FFF0
+    -- timers counted by the CONFIG that the step leaves
+    ∷ is (register configured timer2) 1 0
+    -- a traced instruction that makes no trace due
+    ∷ is (register (runs 1 (with kernel psw 0x80) moving) traceDue) 1 0
+    ∷ []
+
+-- ---- confined runs: the segment at 0 has one page, and nothing is mapped from 0x1000 on
+
+-- a text, with the vector 0x300 of an unimplemented instruction
+abbrev pub trying : List ℕ → Memory → Memory
+trying ps m = word 0x40C 0x300 (segmented (text 0x100 ps m))
+
+-- "MOV *0x5000, *0x200"
+abbrev pub unread : Ended
+unread = confined 1 user (trying (0xC6CC ∷ 0 ∷ 0x5000 ∷ 0 ∷ 0x200 ∷ []) page)
+
+-- "ADDI 3, *0x200", which holds 7, with the accumulator at 0x1004
+abbrev pub halfDone : Ended
+halfDone = confined 1 (with (with user sp 0x1000) msp 0x1000) (word 0x200 7 (trying (0xC3FC ∷ 0 ∷ 3 ∷ 0 ∷ 0x200 ∷ []) page))
+
+-- "KCALL *0x5000"
+abbrev pub asking : Ended
+asking = confined 1 user (trying (0x80C0 ∷ 0 ∷ 0x5000 ∷ []) page)
+
+-- the one-parcel opcode 8, which is unimplemented
+abbrev pub unimplemented : Ended
+unimplemented = confined 1 user (trying (0x2000 ∷ []) page)
+
+-- five parcels of which two lie in the page that is not mapped
+abbrev pub crossing : Ended
+crossing = confined 1 (with user pc 0xFFA) (segmented (text 0xFFA (0xC6FC ∷ 0 ∷ 5 ∷ 0 ∷ 0x200 ∷ []) pages))
+
+-- "MOV 5, *0x200" by a page entry at 0x1000 that has Referenced and not Modified
+abbrev pub modifying : Ended
+modifying = confined 1 user (word 0x1000 0x0F (word 0 0x1001 (text 0x100 (0xC6FC ∷ 0 ∷ 5 ∷ 0 ∷ 0x200 ∷ []) pages)))
+
+unfoldable pub confinedRuns : List Bool
+confinedRuns =
+    -- an event reported before the first step
+    is (confined 1 user (segmented moving) .steps) 1 0
+    ∷ is (confined 1 user (segmented moving) .stop) 0 2
+    -- what a faulting attempt leaves in the registers dropped
+    ∷ is (unread .code) 0x8 0
+    ∷ is (register unread fault) 0x5000 0
+    ∷ is (unread .steps) 0 1
+    -- the stores of a faulting attempt dropped
+    ∷ is (halfDone .code) 0x9 0
+    ∷ is (memoryWord halfDone 0x200) 10 7
+    -- the operand of a KCALL read
+    ∷ is (asking .code) 0x20 0x8
+    ∷ is (register asking pc) 0x100 0x300
+    -- the event sequence of an unimplemented instruction begun
+    ∷ is (unimplemented .code) 0x21 0
+    ∷ is (register unimplemented pc) 0x100 0x300
+    ∷ is (memoryWord unimplemented 0x600) 0 0x100
+    -- an interrupt taken: it is reported, and nothing is done
+    ∷ is (run true 1 0 (board user (segmented moving)) .code) 0x10 0
+    ∷ is (register (run true 1 0 (board user (segmented moving))) nmiTaken) 0 1
+    -- one walk for a text that goes on in a page that is not mapped
+    ∷ is (crossing .code) 0x7 0
+    ∷ is (memoryWord crossing 0x200) 0 5
+    -- a store that leaves Modified as it was
+    ∷ is (memoryWord modifying 0x200) 5 0
+    ∷ is (memoryWord modifying 0x1000) 0x1F 0x0F
+    ∷ []
+
+pub refusals-checked : T (all refusals)
+unfolding refusals run refusal goodBank
+refusals-checked = tt
+
+pub steps-checked : T (all steps)
+unfolding steps run refusal goodBank advance turn step instructionStep attempt act finish fetchInstruction counted executeMonadic executeNormal execute move perform dyadic located locate readPlace readOperand writeRegister writePlace checkRegisters stackTarget checkMsp enterOffset enterAt enter flush checkStore fetchParcel fetchParcels fetchAfter fetchPrefixed fetchText onward _>>=_ request parcelRequest writeMemory writeData interpret after touch follow access route decodeShort decodeDyadic decodeMonadic decodeThree decodeWide decodePrefixed decodeBare decodeOf load storeAnswer storeMemory
+steps-checked = tt
+
+pub confinedRuns-checked : T (all confinedRuns)
+unfolding confinedRuns run refusal goodBank advance confinedTurn confinedAttempt tryActed fetchInstruction counted executeNormal execute addOf interlock move perform dyadic located locate readPlace readOperand writePlace writeAccumulator checkRegisters fetchParcel fetchParcels fetchAfter fetchText onward _>>=_ request parcelRequest readMemory readData writeMemory writeData interpret after touch follow access segmentOf segment nonpagedOf pageOf walkFrom walk route marked fresh recorded decodeShort decodeDyadic decodeMonadic decodeThree decodeWide decodeBare decodeOf load storeAnswer storeMemory
+confinedRuns-checked = tt

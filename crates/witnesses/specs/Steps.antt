@@ -1,0 +1,158 @@
+-- Wrong answers of a step, each on a small board on which the definition answers otherwise.
+-- Assumes nothing.
+use Prim.Native.Nat.{ℕ}
+use mathlib.Core.Bool.{Bool, false}
+use mathlib.Core.List.{List, [], _∷_}
+use lib.Dec.{T}
+use Rattle.word.specs.Sums.{addOf, subOf}
+use Rattle.memory.specs.Bytes.{load, storeAnswer, storeMemory}
+use Rattle.isa.specs.Decode.{decodeShort, decodeDyadic, decodeMonadic, decodeThree, decodeWide, decodePrefixed, decodeBare, decodeOf}
+use Rattle.mmu.specs.Walk.{segmentOf, segment, nonpagedOf, pageOf, walkFrom, walk, route, marked, fresh, recorded}
+use Rattle.program.specs.Access.{touch, follow, access}
+use Rattle.program.specs.Program.{interpret, after}
+use Rattle.machine.specs.Registers.{goodBank, config, fault, isp, pc, psw, shad, timer2, traceDue, timer1Due, timer2Due}
+use Rattle.machine.specs.Cache.{cacheRead, cacheWrite}
+use Rattle.machine.specs.Status.{Cpu, with}
+use Rattle.access.specs.Data.{readCached, readMemory, readData, writeCached, writeMemory, writeData, readFrame, writeFrame, checkStore}
+use Rattle.access.specs.Parts.{onward, _>>=_, request, parcelRequest, frameRequest}
+use Rattle.access.specs.Text.{fetchParcel, fetchParcels, fetchAfter, fetchPrefixed, fetchText}
+use Rattle.exec.specs.Operands.{located, locate, readPlace, readOperand, writeRegister, writePlace, writeAccumulator, checkRegisters}
+use Rattle.exec.specs.Dyadic.{checkDivisor, compute, accumulate, interlock, move, perform, dyadic}
+use Rattle.exec.specs.Control.{readWord32, jump, call}
+use Rattle.exec.specs.Stack.{stackTarget, enterPlain, enterAt, enter}
+use Rattle.exec.specs.Frames.{pushPair, pushFrame, throughVector, interruptSequence, exceptionSequence, storePc, unimplementedSequence, reset}
+use Rattle.exec.specs.Execute.{executeMonadic, executeNiladic, executeNormal, execute}
+use Rattle.step.specs.Events.{take}
+use Rattle.step.specs.Timers.{counted}
+use Rattle.step.specs.Step.{fetchInstruction, act, attempt, eventStep, exceptionStep, finish, instructionStep, step}
+use Rattle.run.specs.Run.{board, Ended, turn, tryActed, confinedAttempt, confinedTurn, advance, refusal, run}
+use Rattle.witnesses.specs.Boards.{is, all, page, word, text, kernel, user, segmented, runs, confined, register, memoryWord}
+
+-- ---- instructions, at kernel level: the stack is the interrupt stack at 0x800
+
+-- "MOV 5, 16(CSP)", with a KCALL vector
+abbrev pub moved : Ended
+moved = runs 1 kernel (word 0x400 0x300 (text 0x100 (0x70A4 ∷ []) page))
+
+-- "SUB *0x200, *0x204": 7 less 5
+abbrev pub subtracted : Ended
+subtracted =
+    runs 1 kernel (word 0x200 5 (word 0x204 7 (text 0x100 (0xE0CC ∷ 0 ∷ 0x200 ∷ 0 ∷ 0x204 ∷ []) page)))
+
+-- "ADD3 3, *0x200", which holds 7
+abbrev pub accumulated : Ended
+accumulated = runs 1 kernel (word 0x200 7 (text 0x100 (0xF3FC ∷ 0 ∷ 3 ∷ 0 ∷ 0x200 ∷ []) page))
+
+-- "ADDI 3, *0x200" and "ADDI 3, R4", each of which holds 7
+abbrev pub interlocked : Ended
+interlocked = runs 1 kernel (word 0x200 7 (text 0x100 (0xC3FC ∷ 0 ∷ 3 ∷ 0 ∷ 0x200 ∷ []) page))
+
+abbrev pub interlockedAtR4 : Ended
+interlockedAtR4 = runs 1 kernel (word 0x804 7 (text 0x100 (0xC3FD ∷ 0 ∷ 3 ∷ 0 ∷ 4 ∷ []) page))
+
+-- "CALL *+0x20"
+abbrev pub called : Ended
+called = runs 1 kernel (text 0x100 (0x0410 ∷ []) page)
+
+-- "ENTER 0x608", with a PSW
+abbrev pub entered : ℕ → Ended
+entered p = runs 1 (with kernel psw p) (text 0x100 (0x80F9 ∷ 0 ∷ 0x608 ∷ []) page)
+
+-- the niladic 0x200, with the vectors of both unimplemented kinds
+abbrev pub trapped : Ended
+trapped = runs 1 kernel (word 0x408 0x308 (word 0x40C 0x30C (text 0x100 (0x2E00 ∷ []) page)))
+
+unfoldable pub instructions : List Bool
+instructions =
+    -- a step that moves nothing, or takes an event sequence though nothing is due
+    is (register moved pc) 0x102 0x100
+    ∷ is (register moved pc) 0x102 0x300
+    ∷ is (memoryWord moved 0x810) 5 0
+    -- the destination read in the place of the source
+    ∷ is (memoryWord subtracted 0x204) 2 0
+    -- the accumulator at the stack pointer: it is the word above
+    ∷ is (memoryWord accumulated 0x804) 10 0
+    ∷ is (memoryWord accumulated 0x800) 0 10
+    -- ADDI leaving the source in the accumulator
+    ∷ is (memoryWord interlocked 0x200) 10 7
+    ∷ is (memoryWord interlocked 0x804) 7 3
+    -- "letting ADDI change R4 when R4 is its destination"
+    ∷ is (memoryWord interlockedAtR4 0x804) 7 10
+    -- CALL saving its own PC
+    ∷ is (register called pc) 0x120 0x102
+    ∷ is (memoryWord called 0x800) 0x102 0x100
+    -- ENTER keeping bit 3 of its target
+    ∷ is (register (entered 0) isp) 0x600 0x608
+    -- ENTER traced as a jump: bit 8 of PSW does not trace it, bit 7 does
+    ∷ is (register (entered 0x100) traceDue) 0 1
+    ∷ is (register (entered 0x80) traceDue) 1 0
+    -- a trapped niladic through the vector of an unimplemented instruction
+    ∷ is (register trapped pc) 0x308 0x30C
+    ∷ []
+
+-- ---- exceptions, confined: nothing is mapped from 0x1000 on
+
+-- "ADD *0x2, *0x5000": the source is not aligned, the destination not mapped
+abbrev pub twoFaults : Ended
+twoFaults = confined 1 user (segmented (text 0x100 (0xE3CC ∷ 0 ∷ 2 ∷ 0 ∷ 0x5000 ∷ []) page))
+
+-- "CPU MOV 0, SP" at user level
+abbrev pub registerWritten : Ended
+registerWritten = confined 1 user (segmented (text 0x100 (0x2C00 ∷ 0xC6F7 ∷ 0 ∷ 0 ∷ 0 ∷ 3 ∷ []) page))
+
+-- "CALL 0x5000", whose target can't be fetched
+abbrev pub calledAway : Ended
+calledAway = confined 2 user (segmented (text 0x100 (0x80F1 ∷ 0 ∷ 0x5000 ∷ []) page))
+
+unfoldable pub exceptions : List Bool
+exceptions =
+    -- the destination before the source
+    is (twoFaults .code) 0x4 0x8
+    -- a register at user level refused only as a source
+    ∷ is (registerWritten .stop) 2 0
+    ∷ is (registerWritten .code) 0x5 0
+    -- "saving a CALL's own PC when its target can't be fetched": the CALL is done, and the fault is its target's
+    ∷ is (calledAway .steps) 1 0
+    ∷ is (calledAway .code) 0x7 0x9
+    ∷ is (register calledAway pc) 0x5000 0x100
+    ∷ is (memoryWord calledAway 0x600) 0x106 0x100
+    ∷ []
+
+-- ---- events
+
+-- level 0 with the interrupt stack past memory
+abbrev pub resetBy : Ended
+resetBy = run false 1 0 (board (with (with (with kernel psw 0x7000) isp 0x8000) shad 0x8000) page)
+
+-- both timers due, and interrupts of level 1 admitted
+abbrev pub bothTimers : Ended
+bothTimers = confined 1 (with (with (with user psw 0x1_7600) timer1Due 1) timer2Due 1) (segmented page)
+
+-- level 0 while Timer2 counts completed instructions
+abbrev pub interrupted : Ended
+interrupted = run false 1 0 (board (with kernel config 0x0200_0000) page)
+
+unfoldable pub events : List Bool
+events =
+    -- a fault on the interrupt stack without a reset
+    is (register resetBy pc) 0 0x100
+    ∷ is (register resetBy shad) 0x7000 0x8000
+    -- Timer2 before Timer1
+    ∷ is (bothTimers .steps) 0 1
+    ∷ is (bothTimers .code) 0x17 0x18
+    -- an event sequence counted as a completed instruction
+    ∷ is (interrupted .steps) 1 0
+    ∷ is (register interrupted timer2) 0 1
+    ∷ []
+
+pub instructions-checked : T (all instructions)
+unfolding instructions run refusal goodBank advance turn step instructionStep attempt act finish fetchInstruction counted executeMonadic executeNormal execute unimplementedSequence storePc throughVector addOf subOf checkDivisor compute accumulate interlock move perform dyadic located locate readPlace readOperand writePlace writeAccumulator checkRegisters readWord32 jump call stackTarget enterPlain enterAt enter checkStore fetchParcel fetchParcels fetchAfter fetchPrefixed fetchText onward _>>=_ request parcelRequest frameRequest readMemory readData writeMemory writeData readFrame writeFrame interpret after touch follow access route decodeShort decodeDyadic decodeMonadic decodeThree decodeWide decodeBare decodeOf load storeAnswer storeMemory
+instructions-checked = tt
+
+pub exceptions-checked : T (all exceptions)
+unfolding exceptions run refusal goodBank advance confinedTurn confinedAttempt tryActed fetchInstruction counted executeMonadic executeNormal execute compute move perform dyadic located locate readPlace readOperand writeRegister writePlace checkRegisters readWord32 call fetchParcel fetchParcels fetchAfter fetchPrefixed fetchText onward _>>=_ request parcelRequest readMemory readData writeMemory writeData interpret after touch follow access segmentOf segment nonpagedOf pageOf walkFrom walk route marked fresh recorded decodeShort decodeDyadic decodeMonadic decodeThree decodeWide decodePrefixed decodeBare decodeOf load storeAnswer storeMemory
+exceptions-checked = tt
+
+pub events-checked : T (all events)
+unfolding events run refusal goodBank advance turn confinedTurn step eventStep take interruptSequence pushPair throughVector reset counted onward _>>=_ frameRequest readFrame writeFrame interpret after touch follow access route load storeAnswer storeMemory
+events-checked = tt
