@@ -3,7 +3,6 @@
 use Prim.Native.Nat.{ℕ, _+_, _/_, _*_, _%_, _^_, _<_, _≤_}
 use mathlib.Core.Path.{_≡_, refl, sym, ap, _∙_}
 use mathlib.Core.Bool.{Bool, true, false, cond}
-use mathlib.Core.List.{List}
 use native.Mathlib.Nat.{mod-eq-of-lt}
 use native.Mathlib.Omega.{arith}
 use lib.ListN.{length}
@@ -21,7 +20,7 @@ use Rattle.mmu.specs.declared.Walk.the-variants.{Fault, Direct, Paged}
 use Rattle.mmu.specs.declared.Regime.{Regime}
 use Rattle.mmu.specs.Walk.{walk, route, recorded}
 use Rattle.program.specs.Access.{Access, fetch, read, write, probe, regimeOf, kindOf, addressOf, aligned, alignmentFault, Gave, gave, touch, follow, access}
-use Rattle.program.specs.Journal.{Journal, journal, note, touchNote, entryNote, walkNote, followNote, accessNote, Journaled, journaled, logging}
+use Rattle.program.specs.Journal.{Journal, note, touchNote, entryNote, walkNote, followNote, accessNote, Journaled, journaled, logging}
 use Rattle.handler.specs.Followed.{followed, regimeFor, fitsWidth, onlyMemory}
 
 -- ---- any access
@@ -54,112 +53,112 @@ word-is a h = mod-eq-of-lt {n = a} {m = 2 ^ 32} h
 
 -- ---- reads
 
-module _ (r : Regime) (w : Width) (x : ℕ) (m : Memory) (a : List ℕ) (o : List (List ℕ)) (y : Walk) where
-  pub read-fault : (k : Walk) (c : ℕ) (z : Answer) → k ≡ y → k ≡ Fault c → z ≡ bad c → gave z (journaled m a o) ≡ followed (read r w x) y (journaled m a o)
+module _ (r : Regime) (w : Width) (x : ℕ) (m : Memory) (a : Journal) (y : Walk) where
+  pub read-fault : (k : Walk) (c : ℕ) (z : Answer) → k ≡ y → k ≡ Fault c → z ≡ bad c → gave z (journaled m a) ≡ followed (read r w x) y (journaled m a)
   unfolding followed follow followNote
   read-fault k c z e f g = rw (sym e ∙ f, g) refl
 
-  pub read-direct : (k : Walk) (pa : ℕ) (z : Answer) → k ≡ y → k ≡ Direct pa → z ≡ load (bytesOf w) m pa → gave z (journaled m a o) ≡ followed (read r w x) y (journaled m a o)
+  pub read-direct : (k : Walk) (pa : ℕ) (z : Answer) → k ≡ y → k ≡ Direct pa → z ≡ load (bytesOf w) m pa → gave z (journaled m a) ≡ followed (read r w x) y (journaled m a)
   unfolding followed follow followNote touch touchNote
   read-direct k pa z e f g = rw (sym e ∙ f, g) refl
 
-  pub read-paged : (k : Walk) (p pa : ℕ) (z : Answer) (n : Memory) (b : List ℕ) (u : List (List ℕ)) → k ≡ y → k ≡ Paged p pa
-      → journaled n b u ≡ record { memory = recorded Read p m; log = entryNote Read p m (journal a o) } → z ≡ load (bytesOf w) n pa
-      → gave z (journaled n b u) ≡ followed (read r w x) y (journaled m a o)
+  pub read-paged : (k : Walk) (p pa : ℕ) (z : Answer) (n : Memory) (b : Journal) → k ≡ y → k ≡ Paged p pa
+      → journaled n b ≡ journaled (recorded Read p m) (entryNote Read p m a) → z ≡ load (bytesOf w) n pa
+      → gave z (journaled n b) ≡ followed (read r w x) y (journaled m a)
   unfolding followed follow followNote touch touchNote walkNote
-  read-paged k p pa z n b u e f d g =
-      rw (sym e ∙ f) (ap (λ (v : Answer). gave v (journaled n b u)) g ∙ ap (λ (t : Journaled). gave (load (bytesOf w) (t .memory) pa) t) d)
+  read-paged k p pa z n b e f d g =
+      rw (sym e ∙ f) (ap (λ (v : Answer). gave v (journaled n b)) g ∙ ap (λ (t : Journaled). gave (load (bytesOf w) (t .memory) pa) t) d)
 
-module _ (stb : ℕ) (user translated : Bool) (w : Width) (x : ℕ) (m : Memory) (a : List ℕ) (o : List (List ℕ)) where
-  pub read-odd : (b : Bool) (z : Answer) → x < 2 ^ 32 → b ≡ fitsWidth w x → b ≡ false → z ≡ bad 4 → gave z (journaled m a o) ≡ logging (read (regimeFor stb user translated) w x) (journaled m a o)
-  read-odd b z h e f g = ap (λ (v : Answer). gave v (journaled m a o)) g ∙ odd-is (read (regimeFor stb user translated) w x) (journaled m a o) (fits-is w x h ∙ sym e ∙ f)
+module _ (stb : ℕ) (user translated : Bool) (w : Width) (x : ℕ) (m : Memory) (a : Journal) where
+  pub read-odd : (b : Bool) (z : Answer) → x < 2 ^ 32 → b ≡ fitsWidth w x → b ≡ false → z ≡ bad 4 → gave z (journaled m a) ≡ logging (read (regimeFor stb user translated) w x) (journaled m a)
+  read-odd b z h e f g = ap (λ (v : Answer). gave v (journaled m a)) g ∙ odd-is (read (regimeFor stb user translated) w x) (journaled m a) (fits-is w x h ∙ sym e ∙ f)
 
   pub read-virtual : (b : Bool) (g : Gave Journaled Answer) → x < 2 ^ 32 → b ≡ fitsWidth w x → b ≡ true → translated ≡ true
-      → g ≡ followed (read (regimeFor stb user true) w x) (walk user stb Read x m) (journaled m a o) → g ≡ logging (read (regimeFor stb user translated) w x) (journaled m a o)
+      → g ≡ followed (read (regimeFor stb user true) w x) (walk user stb Read x m) (journaled m a) → g ≡ logging (read (regimeFor stb user translated) w x) (journaled m a)
   read-virtual b g h e f v i =
-      i ∙ virtual-is (read (regimeFor stb user true) w x) stb x user Read (journaled m a o) refl (word-is x h) (fits-is w x h ∙ sym e ∙ f) refl
-      ∙ ap (λ (c : Bool). logging (read (regimeFor stb user c) w x) (journaled m a o)) (sym v)
+      i ∙ virtual-is (read (regimeFor stb user true) w x) stb x user Read (journaled m a) refl (word-is x h) (fits-is w x h ∙ sym e ∙ f) refl
+      ∙ ap (λ (c : Bool). logging (read (regimeFor stb user c) w x) (journaled m a)) (sym v)
 
   pub read-physical : (b : Bool) (z : Answer) → x < 2 ^ 32 → b ≡ fitsWidth w x → b ≡ true → translated ≡ false → z ≡ load (bytesOf w) m x
-      → gave z (journaled m a o) ≡ logging (read (regimeFor stb user translated) w x) (journaled m a o)
+      → gave z (journaled m a) ≡ logging (read (regimeFor stb user translated) w x) (journaled m a)
   read-physical b z h e f v g =
-      read-direct (regimeFor stb user false) w x m a o (Direct x) (Direct x) x z refl refl g
-      ∙ physical-is (read (regimeFor stb user false) w x) stb x user Read (journaled m a o) refl (word-is x h) (fits-is w x h ∙ sym e ∙ f) refl
-      ∙ ap (λ (c : Bool). logging (read (regimeFor stb user c) w x) (journaled m a o)) (sym v)
+      read-direct (regimeFor stb user false) w x m a (Direct x) (Direct x) x z refl refl g
+      ∙ physical-is (read (regimeFor stb user false) w x) stb x user Read (journaled m a) refl (word-is x h) (fits-is w x h ∙ sym e ∙ f) refl
+      ∙ ap (λ (c : Bool). logging (read (regimeFor stb user c) w x) (journaled m a)) (sym v)
 
 -- ---- writes
 
-pub store-held : (w : Width) (pa v : ℕ) (m : Memory) (a : List ℕ) (o : List (List ℕ)) (k : ℕ) (z : Answer) (n : Memory) (b : List ℕ) (u : List (List ℕ))
-    → k ≡ bytesOf w → pa + k ≤ length m → journal b u ≡ note (pa / 4 * 4) m (journal a o) → done z n ≡ storeOf (bytesOf w) m pa v
-    → gave z (journaled n b u) ≡ followed (write (regimeFor 0 true true) w 0 v) (Direct pa) (journaled m a o)
+pub store-held : (w : Width) (pa v : ℕ) (m : Memory) (a : Journal) (k : ℕ) (z : Answer) (n : Memory) (b : Journal)
+    → k ≡ bytesOf w → pa + k ≤ length m → b ≡ note (pa / 4 * 4) m a → done z n ≡ storeOf (bytesOf w) m pa v
+    → gave z (journaled n b) ≡ followed (write (regimeFor 0 true true) w 0 v) (Direct pa) (journaled m a)
 unfolding followed follow followNote touch touchNote storeOf
-store-held w pa v m a o k z n b u ek h j d =
+store-held w pa v m a k z n b ek h j d =
     let f : holds m pa (bytesOf w) ≡ true = le-leb (pa + bytesOf w) (length m) (rw (sym ek) h) in
     let e : z ≡ storeAnswer (bytesOf w) m pa = ap (λ (x : Effect). x .answer) d in
     let g : n ≡ storeMemory (bytesOf w) m pa v = ap (λ (x : Effect). x .memory) d in
     rw (f, e, g, j) refl
 
-pub store-past : (w : Width) (pa v : ℕ) (m : Memory) (a : List ℕ) (o : List (List ℕ)) (k : ℕ) (z : Answer) → k ≡ bytesOf w → length m < pa + k → z ≡ bad 10
-    → gave z (journaled m a o) ≡ followed (write (regimeFor 0 true true) w 0 v) (Direct pa) (journaled m a o)
+pub store-past : (w : Width) (pa v : ℕ) (m : Memory) (a : Journal) (k : ℕ) (z : Answer) → k ≡ bytesOf w → length m < pa + k → z ≡ bad 10
+    → gave z (journaled m a) ≡ followed (write (regimeFor 0 true true) w 0 v) (Direct pa) (journaled m a)
 unfolding followed follow followNote touch touchNote storeAnswer storeMemory
-store-past w pa v m a o k z ek h g = let f : holds m pa (bytesOf w) ≡ false = lt-leb (pa + bytesOf w) (length m) (rw (sym ek) h) in rw (f, g) refl
+store-past w pa v m a k z ek h g = let f : holds m pa (bytesOf w) ≡ false = lt-leb (pa + bytesOf w) (length m) (rw (sym ek) h) in rw (f, g) refl
 
 -- where a store goes decides alone
 store-any : (r : Regime) (w : Width) (x v pa : ℕ) (t : Journaled) → followed (write (regimeFor 0 true true) w 0 v) (Direct pa) t ≡ followed (write r w x v) (Direct pa) t
 unfolding followed follow followNote touch touchNote
 store-any r w x v pa t = refl
 
-module _ (r : Regime) (w : Width) (x v : ℕ) (m : Memory) (a : List ℕ) (o : List (List ℕ)) (y : Walk) where
-  pub write-fault : (k : Walk) (c : ℕ) (z : Answer) → k ≡ y → k ≡ Fault c → z ≡ bad c → gave z (journaled m a o) ≡ followed (write r w x v) y (journaled m a o)
+module _ (r : Regime) (w : Width) (x v : ℕ) (m : Memory) (a : Journal) (y : Walk) where
+  pub write-fault : (k : Walk) (c : ℕ) (z : Answer) → k ≡ y → k ≡ Fault c → z ≡ bad c → gave z (journaled m a) ≡ followed (write r w x v) y (journaled m a)
   unfolding followed follow followNote
   write-fault k c z e f g = rw (sym e ∙ f, g) refl
 
-  pub write-direct : (k : Walk) (pa : ℕ) (g : Gave Journaled Answer) → k ≡ y → k ≡ Direct pa → g ≡ followed (write (regimeFor 0 true true) w 0 v) (Direct pa) (journaled m a o)
-      → g ≡ followed (write r w x v) y (journaled m a o)
-  write-direct k pa g e f i = i ∙ store-any r w x v pa (journaled m a o) ∙ ap (λ (z : Walk). followed (write r w x v) z (journaled m a o)) (sym f ∙ e)
+  pub write-direct : (k : Walk) (pa : ℕ) (g : Gave Journaled Answer) → k ≡ y → k ≡ Direct pa → g ≡ followed (write (regimeFor 0 true true) w 0 v) (Direct pa) (journaled m a)
+      → g ≡ followed (write r w x v) y (journaled m a)
+  write-direct k pa g e f i = i ∙ store-any r w x v pa (journaled m a) ∙ ap (λ (z : Walk). followed (write r w x v) z (journaled m a)) (sym f ∙ e)
 
-  pub write-paged : (k : Walk) (p pa : ℕ) (g : Gave Journaled Answer) (n : Memory) (b : List ℕ) (u : List (List ℕ)) → k ≡ y → k ≡ Paged p pa
-      → journaled n b u ≡ record { memory = recorded Write p m; log = entryNote Write p m (journal a o) }
-      → g ≡ followed (write (regimeFor 0 true true) w 0 v) (Direct pa) (journaled n b u) → g ≡ followed (write r w x v) y (journaled m a o)
+  pub write-paged : (k : Walk) (p pa : ℕ) (g : Gave Journaled Answer) (n : Memory) (b : Journal) → k ≡ y → k ≡ Paged p pa
+      → journaled n b ≡ journaled (recorded Write p m) (entryNote Write p m a)
+      → g ≡ followed (write (regimeFor 0 true true) w 0 v) (Direct pa) (journaled n b) → g ≡ followed (write r w x v) y (journaled m a)
   unfolding followed follow followNote touch touchNote walkNote
-  write-paged k p pa g n b u e f d i =
+  write-paged k p pa g n b e f d i =
       i ∙ ap (λ (t : Journaled). followed (write r w x v) (Direct pa) t) d
-      ∙ ap (λ (z : Walk). followed (write r w x v) z (journaled m a o)) (sym f ∙ e)
+      ∙ ap (λ (z : Walk). followed (write r w x v) z (journaled m a)) (sym f ∙ e)
 
-module _ (stb : ℕ) (user translated : Bool) (w : Width) (x v : ℕ) (m : Memory) (a : List ℕ) (o : List (List ℕ)) where
-  pub write-odd : (b : Bool) (z : Answer) → x < 2 ^ 32 → b ≡ fitsWidth w x → b ≡ false → z ≡ bad 4 → gave z (journaled m a o) ≡ logging (write (regimeFor stb user translated) w x v) (journaled m a o)
-  write-odd b z h e f g = ap (λ (y : Answer). gave y (journaled m a o)) g ∙ odd-is (write (regimeFor stb user translated) w x v) (journaled m a o) (fits-is w x h ∙ sym e ∙ f)
+module _ (stb : ℕ) (user translated : Bool) (w : Width) (x v : ℕ) (m : Memory) (a : Journal) where
+  pub write-odd : (b : Bool) (z : Answer) → x < 2 ^ 32 → b ≡ fitsWidth w x → b ≡ false → z ≡ bad 4 → gave z (journaled m a) ≡ logging (write (regimeFor stb user translated) w x v) (journaled m a)
+  write-odd b z h e f g = ap (λ (y : Answer). gave y (journaled m a)) g ∙ odd-is (write (regimeFor stb user translated) w x v) (journaled m a) (fits-is w x h ∙ sym e ∙ f)
 
   pub write-virtual : (b : Bool) (g : Gave Journaled Answer) → x < 2 ^ 32 → b ≡ fitsWidth w x → b ≡ true → translated ≡ true
-      → g ≡ followed (write (regimeFor stb user true) w x v) (walk user stb Write x m) (journaled m a o) → g ≡ logging (write (regimeFor stb user translated) w x v) (journaled m a o)
+      → g ≡ followed (write (regimeFor stb user true) w x v) (walk user stb Write x m) (journaled m a) → g ≡ logging (write (regimeFor stb user translated) w x v) (journaled m a)
   write-virtual b g h e f t i =
-      i ∙ virtual-is (write (regimeFor stb user true) w x v) stb x user Write (journaled m a o) refl (word-is x h) (fits-is w x h ∙ sym e ∙ f) refl
-      ∙ ap (λ (c : Bool). logging (write (regimeFor stb user c) w x v) (journaled m a o)) (sym t)
+      i ∙ virtual-is (write (regimeFor stb user true) w x v) stb x user Write (journaled m a) refl (word-is x h) (fits-is w x h ∙ sym e ∙ f) refl
+      ∙ ap (λ (c : Bool). logging (write (regimeFor stb user c) w x v) (journaled m a)) (sym t)
 
   pub write-physical : (b : Bool) (g : Gave Journaled Answer) → x < 2 ^ 32 → b ≡ fitsWidth w x → b ≡ true → translated ≡ false
-      → g ≡ followed (write (regimeFor 0 true true) w 0 v) (Direct x) (journaled m a o) → g ≡ logging (write (regimeFor stb user translated) w x v) (journaled m a o)
+      → g ≡ followed (write (regimeFor 0 true true) w 0 v) (Direct x) (journaled m a) → g ≡ logging (write (regimeFor stb user translated) w x v) (journaled m a)
   write-physical b g h e f t i =
-      i ∙ store-any (regimeFor stb user false) w x v x (journaled m a o)
-      ∙ physical-is (write (regimeFor stb user false) w x v) stb x user Write (journaled m a o) refl (word-is x h) (fits-is w x h ∙ sym e ∙ f) refl
-      ∙ ap (λ (c : Bool). logging (write (regimeFor stb user c) w x v) (journaled m a o)) (sym t)
+      i ∙ store-any (regimeFor stb user false) w x v x (journaled m a)
+      ∙ physical-is (write (regimeFor stb user false) w x v) stb x user Write (journaled m a) refl (word-is x h) (fits-is w x h ∙ sym e ∙ f) refl
+      ∙ ap (λ (c : Bool). logging (write (regimeFor stb user c) w x v) (journaled m a)) (sym t)
 
 -- ---- text
 
-module _ (r : Regime) (x : ℕ) (m : Memory) (a : List ℕ) (o : List (List ℕ)) (y : Walk) where
-  pub fetch-fault : (k : Walk) (c : ℕ) (z : Answer) → k ≡ y → k ≡ Fault c → z ≡ bad c → gave z (journaled m a o) ≡ followed (fetch r x) y (journaled m a o)
+module _ (r : Regime) (x : ℕ) (m : Memory) (a : Journal) (y : Walk) where
+  pub fetch-fault : (k : Walk) (c : ℕ) (z : Answer) → k ≡ y → k ≡ Fault c → z ≡ bad c → gave z (journaled m a) ≡ followed (fetch r x) y (journaled m a)
   unfolding followed follow followNote
   fetch-fault k c z e f g = rw (sym e ∙ f, g) refl
 
-  pub fetch-direct : (k : Walk) (pa : ℕ) (z : Answer) → k ≡ y → k ≡ Direct pa → z ≡ load 2 m pa → gave z (journaled m a o) ≡ followed (fetch r x) y (journaled m a o)
+  pub fetch-direct : (k : Walk) (pa : ℕ) (z : Answer) → k ≡ y → k ≡ Direct pa → z ≡ load 2 m pa → gave z (journaled m a) ≡ followed (fetch r x) y (journaled m a)
   unfolding followed follow followNote touch touchNote
   fetch-direct k pa z e f g = rw (sym e ∙ f, g) refl
 
-  pub fetch-paged : (k : Walk) (p pa : ℕ) (z : Answer) (n : Memory) (b : List ℕ) (u : List (List ℕ)) → k ≡ y → k ≡ Paged p pa
-      → journaled n b u ≡ record { memory = recorded Fetch p m; log = entryNote Fetch p m (journal a o) } → z ≡ load 2 n pa
-      → gave z (journaled n b u) ≡ followed (fetch r x) y (journaled m a o)
+  pub fetch-paged : (k : Walk) (p pa : ℕ) (z : Answer) (n : Memory) (b : Journal) → k ≡ y → k ≡ Paged p pa
+      → journaled n b ≡ journaled (recorded Fetch p m) (entryNote Fetch p m a) → z ≡ load 2 n pa
+      → gave z (journaled n b) ≡ followed (fetch r x) y (journaled m a)
   unfolding followed follow followNote touch touchNote walkNote
-  fetch-paged k p pa z n b u e f d g =
-      rw (sym e ∙ f) (ap (λ (v : Answer). gave v (journaled n b u)) g ∙ ap (λ (t : Journaled). gave (load 2 (t .memory) pa) t) d)
+  fetch-paged k p pa z n b e f d g =
+      rw (sym e ∙ f) (ap (λ (v : Answer). gave v (journaled n b)) g ∙ ap (λ (t : Journaled). gave (load 2 (t .memory) pa) t) d)
 
 pub text-is : (r : Regime) (x : ℕ) → x < 2 ^ 32 → addressOf (fetch r x) ≡ x / 2 * 2
 text-is r x h = ap (λ (n : ℕ). n / 2 * 2) (word-is x h)
@@ -167,18 +166,18 @@ text-is r x h = ap (λ (n : ℕ). n / 2 * 2) (word-is x h)
 pub even : (r : Regime) (x : ℕ) → aligned (fetch r x) ≡ true
 even r x = eq-eqb (x % 2 ^ 32 / 2 * 2 % 2) 0 (omega arith)
 
-module _ (stb : ℕ) (user translated : Bool) (x : ℕ) (m : Memory) (a : List ℕ) (o : List (List ℕ)) where
+module _ (stb : ℕ) (user translated : Bool) (x : ℕ) (m : Memory) (a : Journal) where
   pub fetch-virtual : (g : Gave Journaled Answer) → x < 2 ^ 32 → translated ≡ true
-      → g ≡ followed (fetch (regimeFor stb user true) x) (walk user stb Fetch (x / 2 * 2) m) (journaled m a o) → g ≡ logging (fetch (regimeFor stb user translated) x) (journaled m a o)
+      → g ≡ followed (fetch (regimeFor stb user true) x) (walk user stb Fetch (x / 2 * 2) m) (journaled m a) → g ≡ logging (fetch (regimeFor stb user translated) x) (journaled m a)
   fetch-virtual g h v i =
-      i ∙ virtual-is (fetch (regimeFor stb user true) x) stb (x / 2 * 2) user Fetch (journaled m a o) refl (text-is (regimeFor stb user true) x h) (even (regimeFor stb user true) x) refl
-      ∙ ap (λ (c : Bool). logging (fetch (regimeFor stb user c) x) (journaled m a o)) (sym v)
+      i ∙ virtual-is (fetch (regimeFor stb user true) x) stb (x / 2 * 2) user Fetch (journaled m a) refl (text-is (regimeFor stb user true) x h) (even (regimeFor stb user true) x) refl
+      ∙ ap (λ (c : Bool). logging (fetch (regimeFor stb user c) x) (journaled m a)) (sym v)
 
-  pub fetch-physical : (z : Answer) → x < 2 ^ 32 → translated ≡ false → z ≡ load 2 m (x / 2 * 2) → gave z (journaled m a o) ≡ logging (fetch (regimeFor stb user translated) x) (journaled m a o)
+  pub fetch-physical : (z : Answer) → x < 2 ^ 32 → translated ≡ false → z ≡ load 2 m (x / 2 * 2) → gave z (journaled m a) ≡ logging (fetch (regimeFor stb user translated) x) (journaled m a)
   fetch-physical z h v g =
-      fetch-direct (regimeFor stb user false) x m a o (Direct (x / 2 * 2)) (Direct (x / 2 * 2)) (x / 2 * 2) z refl refl g
-      ∙ physical-is (fetch (regimeFor stb user false) x) stb (x / 2 * 2) user Fetch (journaled m a o) refl (text-is (regimeFor stb user false) x h) (even (regimeFor stb user false) x) refl
-      ∙ ap (λ (c : Bool). logging (fetch (regimeFor stb user c) x) (journaled m a o)) (sym v)
+      fetch-direct (regimeFor stb user false) x m a (Direct (x / 2 * 2)) (Direct (x / 2 * 2)) (x / 2 * 2) z refl refl g
+      ∙ physical-is (fetch (regimeFor stb user false) x) stb (x / 2 * 2) user Fetch (journaled m a) refl (text-is (regimeFor stb user false) x h) (even (regimeFor stb user false) x) refl
+      ∙ ap (λ (c : Bool). logging (fetch (regimeFor stb user c) x) (journaled m a)) (sym v)
 
 -- ---- checks of stores
 

@@ -1,36 +1,48 @@
 -- The ways out of the journal's functions and of the accesses, as laws of the definitions.
 -- Assumes nothing.
-use Prim.Native.Nat.{ℕ, _+_, _<_, _≤_}
-use mathlib.Core.Path.{_≡_, refl, sym, _∙_}
+use Prim.Native.Nat.{ℕ, _+_, _*_, _/_, _%_, _^_, _<_, _≤_}
+use mathlib.Core.Path.{_≡_, refl, sym, ap, _∙_}
 use mathlib.Core.Bool.{Bool, true, false}
-use mathlib.Core.List.{List}
-use lib.ListN.{getD, set, length}
-use borrow.Author.Tests.{lt-ltb, le-ltb, le-leb, lt-leb}
-use Rattle.memory.specs.Bytes.{Memory}
+use native.Mathlib.Nat.{mod-eq-of-lt}
+use lib.ListN.{getD, set}
+use borrow.Author.Tests.{lt-ltb, le-ltb}
+use Rattle.memory.specs.Answers.{Answer, answerOf}
+use Rattle.memory.specs.Bytes.{Memory, number, load, Effect, done, storeOf}
+use Rattle.memory.proofs.AnswerLaws.{load-held, load-inside, load-outside}
 use Rattle.mmu.specs.declared.Kind.{Kind}
 use Rattle.mmu.specs.Walk.{fresh, recorded}
-use Rattle.program.specs.Journal.{journal, fourBytes, note, entryNote, journaled}
+use Rattle.program.specs.Journal.{Journal, count, entry, note, entryNote, restored, journaled}
 
-module _ (a : ℕ) (m : Memory) (p : List ℕ) (w : List (List ℕ)) where
-  pub note-made : getD p 0 0 < 200 → a + 4 ≤ length m
-      → journal (set (set p (getD p 0 0 + 1) a) 0 (getD p 0 0 + 1)) (set w (getD p 0 0) (fourBytes m a)) ≡ note a m (journal p w)
+-- w is the answer of the load of the word at a
+module _ (a : ℕ) (m : Memory) (j : Journal) where
+  pub note-made : (w : ℕ) → answerOf w ≡ load 4 m a → getD j 0 0 < 200 → w < 2 ^ 32
+      → set (set j (getD j 0 0 + 1) (a * 2 ^ 32 + w)) 0 (getD j 0 0 + 1) ≡ note a m j
   unfolding note
-  note-made h f = simp (lt-ltb _ _ h, le-leb _ _ f)
+  note-made w e h f =
+      rw (lt-ltb _ _ h, load-inside 4 m a w e f) (ap (λ (x : ℕ). set (set j (count j + 1) (entry a x)) 0 (count j + 1)) whole)
+    where
+      whole : w ≡ number 4 m a
+      whole = sym (mod-eq-of-lt {n = w} {m = 2 ^ 32} f) ∙ load-held 4 m a w e (load-inside 4 m a w e f)
 
-  pub note-past : getD p 0 0 < 200 → length m < a + 4 → journal p w ≡ note a m (journal p w)
+  pub note-past : (w : ℕ) → answerOf w ≡ load 4 m a → getD j 0 0 < 200 → 2 ^ 32 ≤ w → j ≡ note a m j
   unfolding note
-  note-past h f = simp (lt-ltb _ _ h, lt-leb _ _ f)
+  note-past w e h f = simp (lt-ltb _ _ h, load-outside 4 m a w e f)
 
-  pub note-full : 200 ≤ getD p 0 0 → journal p w ≡ note a m (journal p w)
+  pub note-full : 200 ≤ getD j 0 0 → j ≡ note a m j
   unfolding note
   note-full h = simp (le-ltb _ _ h)
 
-module _ (k : Kind) (p : ℕ) (m : Memory) (a : List ℕ) (o : List (List ℕ)) where
-  pub entry-fresh : (b : Bool) (n : Memory) (x : List ℕ) (y : List (List ℕ)) → b ≡ fresh k p m → b ≡ true → journal x y ≡ note p m (journal a o) → n ≡ recorded k p m
-      → journaled n x y ≡ record { memory = recorded k p m; log = entryNote k p m (journal a o) }
+module _ (k : Kind) (p : ℕ) (m : Memory) (j : Journal) where
+  pub entry-fresh : (b : Bool) (n : Memory) (i : Journal) → b ≡ fresh k p m → b ≡ true → i ≡ note p m j → n ≡ recorded k p m
+      → journaled n i ≡ journaled (recorded k p m) (entryNote k p m j)
   unfolding entryNote
-  entry-fresh b n x y e t f g = rw (sym e ∙ t, g, f) refl
+  entry-fresh b n i e t f g = rw (sym e ∙ t, g, f) refl
 
-  pub entry-old : (b : Bool) → b ≡ fresh k p m → b ≡ false → journaled m a o ≡ record { memory = recorded k p m; log = entryNote k p m (journal a o) }
+  pub entry-old : (b : Bool) → b ≡ fresh k p m → b ≡ false → journaled m j ≡ journaled (recorded k p m) (entryNote k p m j)
   unfolding entryNote recorded
   entry-old b e t = rw (sym e ∙ t) refl
+
+-- an entry's word put back by a store
+pub word-restored : (m : Memory) (e : ℕ) (x : Answer) (n : Memory) → done x n ≡ storeOf 4 m (e / 2 ^ 32) (e % 2 ^ 32) → n ≡ restored m e
+unfolding restored storeOf
+word-restored m e x n d = ap (λ (y : Effect). y .memory) d

@@ -4,7 +4,6 @@ use Prim.Native.Nat.{ℕ, _+_, _/_, _%_, _^_, _<_, _≤_}
 use mathlib.Core.Path.{_≡_, refl, sym, ap, _∙_}
 use mathlib.Core.Logic.{_⊎_, inl, inr}
 use mathlib.Core.Bool.{Bool, true, false, not}
-use mathlib.Core.List.{List}
 use native.Mathlib.Decide.{decLt}
 use native.Mathlib.Omega.{arith}
 use lib.ListN.{length}
@@ -22,7 +21,7 @@ use Rattle.mmu.specs.Walk.{segmentPlace, walk, fresh}
 use Rattle.mmu.proofs.Beside.{walk-beside, walk-kept}
 use Rattle.mmu.proofs.Shape.{walk-paged}
 use Rattle.program.specs.Access.{read, write, Gave, gave, touch, follow}
-use Rattle.program.specs.Journal.{Journaled, journaled, logging}
+use Rattle.program.specs.Journal.{Journal, Journaled, journaled, logging}
 use Rattle.handler.specs.Followed.{followed, regimeFor, fitsWidth}
 use Rattle.handler.specs.Quads.{Quad}
 use Rattle.handler.proofs.Laws.{entry-old}
@@ -58,12 +57,12 @@ module _ (user : Bool) (stb : ℕ) (a : ℕ) (m : Memory) (pa i : ℕ) (few : i 
   aligned : a % 16 ≡ 0 → fitsWidth Word (a + i) ≡ true
   aligned h = eq-eqb ((a + i) % 4) 0 (omega arith)
 
-  pub read-near : Quad user stb Read a m pa → (z : Answer) → z ≡ load 4 m (pa + i) → (o : List ℕ) (w : List (List ℕ))
-      → gave z (journaled m o w) ≡ logging (read (regimeFor stb user true) Word (a + i)) (journaled m o w)
-  read-near k z g o w =
-      read-virtual stb user true Word (a + i) m o w (fitsWidth Word (a + i)) (gave z (journaled m o w)) (near (k .start)) refl (aligned (k .start)) refl
-      (read-paged (regimeFor stb user true) Word (a + i) m o w (walk user stb Read (a + i) m) (walk user stb Read (a + i) m) (k .entry) (pa + i) z m o w
-      refl (walk-beside user stb Read a i (in-page (k .start)) m (k .entry) pa (k .found)) (entry-old Read (k .entry) m o w (fresh Read (k .entry) m) refl (k .old)) g)
+  pub read-near : Quad user stb Read a m pa → (z : Answer) → z ≡ load 4 m (pa + i) → (o : Journal)
+      → gave z (journaled m o) ≡ logging (read (regimeFor stb user true) Word (a + i)) (journaled m o)
+  read-near k z g o =
+      read-virtual stb user true Word (a + i) m o (fitsWidth Word (a + i)) (gave z (journaled m o)) (near (k .start)) refl (aligned (k .start)) refl
+      (read-paged (regimeFor stb user true) Word (a + i) m o (walk user stb Read (a + i) m) (walk user stb Read (a + i) m) (k .entry) (pa + i) z m o
+      refl (walk-beside user stb Read a i (in-page (k .start)) m (k .entry) pa (k .found)) (entry-old Read (k .entry) m o (fresh Read (k .entry) m) refl (k .old)) g)
 
   pub read-low : Quad user stb Read a m pa → (x : ℕ) → answerOf x ≡ load 4 m (pa + i) → x < 2 ^ 32
   unfolding load
@@ -71,16 +70,16 @@ module _ (user : Bool) (stb : ℕ) (a : ℕ) (m : Memory) (pa i : ℕ) (few : i 
       let f : holds m (pa + i) 4 ≡ true = le-leb (pa + i + 4) (length m) (omega (arith, k .inside, k .place)) in
       low x (number 4 m (pa + i)) (rw f at e)
 
-  module _ (v : ℕ) (k : Quad user stb Write a m pa) (o : List ℕ) (w : List (List ℕ)) where
+  module _ (v : ℕ) (k : Quad user stb Write a m pa) (o : Journal) where
     held : holds m (pa + i) 4 ≡ true
     held = le-leb (pa + i + 4) (length m) (omega (arith, k .inside, k .place))
 
-    pub write-near : (g : Gave Journaled Answer) → g ≡ followed (write (regimeFor 0 true true) Word 0 v) (Direct (pa + i)) (journaled m o w)
-        → g ≡ logging (write (regimeFor stb user true) Word (a + i) v) (journaled m o w)
+    pub write-near : (g : Gave Journaled Answer) → g ≡ followed (write (regimeFor 0 true true) Word 0 v) (Direct (pa + i)) (journaled m o)
+        → g ≡ logging (write (regimeFor stb user true) Word (a + i) v) (journaled m o)
     write-near g e =
-        write-virtual stb user true Word (a + i) v m o w (fitsWidth Word (a + i)) g (near (k .start)) refl (aligned (k .start)) refl
-        (write-paged (regimeFor stb user true) Word (a + i) v m o w (walk user stb Write (a + i) m) (walk user stb Write (a + i) m) (k .entry) (pa + i) g m o w
-        refl (walk-beside user stb Write a i (in-page (k .start)) m (k .entry) pa (k .found)) (entry-old Write (k .entry) m o w (fresh Write (k .entry) m) refl (k .old)) e)
+        write-virtual stb user true Word (a + i) v m o (fitsWidth Word (a + i)) g (near (k .start)) refl (aligned (k .start)) refl
+        (write-paged (regimeFor stb user true) Word (a + i) v m o (walk user stb Write (a + i) m) (walk user stb Write (a + i) m) (k .entry) (pa + i) g m o
+        refl (walk-beside user stb Write a i (in-page (k .start)) m (k .entry) pa (k .found)) (entry-old Write (k .entry) m o (fresh Write (k .entry) m) refl (k .old)) e)
 
     -- the store leaves both entries
     entry-word : k .entry % 4 ≡ 0
@@ -116,8 +115,8 @@ module _ (user : Bool) (stb : ℕ) (a : ℕ) (m : Memory) (pa i : ℕ) (few : i 
           clear = k .clear;
         }
 
-    module _ (x : ℕ) (n : Memory) (b : List ℕ) (u : List (List ℕ))
-        (e : gave (answerOf x) (journaled n b u) ≡ followed (write (regimeFor 0 true true) Word 0 v) (Direct (pa + i)) (journaled m o w)) where
+    module _ (x : ℕ) (n : Memory) (b : Journal)
+        (e : gave (answerOf x) (journaled n b) ≡ followed (write (regimeFor 0 true true) Word 0 v) (Direct (pa + i)) (journaled m o)) where
       answered : answerOf x ≡ got 0
       unfolding followed follow touch storeAnswer
       answered = ap (λ (g : Gave Journaled Answer). g .out) e ∙ rw held refl

@@ -28,4 +28,4 @@ fitsWidth Half a = eqb (a % 2) 0
 fitsWidth Word a = eqb (a % 4) 0
 
 abbrev pub onlyMemory : Memory → Journaled
-onlyMemory m = journaled m [] []
+onlyMemory m = journaled m []

@@ -35,21 +35,20 @@ pub fn aligned(w: Width, a: u32) -> bool
 
 fn read_walked(
     m: &mut [u8],
-    places: &mut [u32; 201],
-    words: &mut [[u8; 4]; 200],
+    journal: &mut [u64; 201],
     w: Width,
     stb: u32,
     user: bool,
     a: u32,
 ) -> u64
-    ensures { λ r. ⌜ gave (answerOf r) (journaled (now (m .exit)) (now (places .exit)) (now (words .exit))) ≡ followed (reads (regimeFor stb user true) w a) (walk user stb kind.Read a (now (m .entry))) (journaled (now (m .entry)) (now (places .entry)) (now (words .entry))) ⌝ }
+    ensures { λ r. ⌜ gave (answerOf r) (journaled (now (m .exit)) (now (journal .exit))) ≡ followed (reads (regimeFor stb user true) w a) (walk user stb kind.Read a (now (m .entry))) (journaled (now (m .entry)) (now (journal .entry))) ⌝ }
 {
     let x = translate(m, user, stb, Kind::Read, a);
     match x {
         Walk::Fault(c) => raised(c),
         Walk::Direct(pa) => load(m, w, pa),
         Walk::Paged(p, pa) => {
-            record_entry(m, places, words, Kind::Read, p);
+            record_entry(m, journal, Kind::Read, p);
             load(m, w, pa)
         }
     }
@@ -58,19 +57,18 @@ fn read_walked(
 // A number of a width.
 pub fn read(
     m: &mut [u8],
-    places: &mut [u32; 201],
-    words: &mut [[u8; 4]; 200],
+    journal: &mut [u64; 201],
     w: Width,
     stb: u32,
     user: bool,
     translated: bool,
     a: u32,
 ) -> u64
-    ensures { λ r. ⌜ gave (answerOf r) (journaled (now (m .exit)) (now (places .exit)) (now (words .exit))) ≡ logging (reads (regimeFor stb user translated) w a) (journaled (now (m .entry)) (now (places .entry)) (now (words .entry))) ⌝ }
+    ensures { λ r. ⌜ gave (answerOf r) (journaled (now (m .exit)) (now (journal .exit))) ≡ logging (reads (regimeFor stb user translated) w a) (journaled (now (m .entry)) (now (journal .entry))) ⌝ }
 {
     if aligned(w, a) {
         if translated {
-            read_walked(m, places, words, w, stb, user, a)
+            read_walked(m, journal, w, stb, user, a)
         } else {
             load(m, w, a)
         }
@@ -80,18 +78,11 @@ pub fn read(
 }
 
 // A store into the word of pa, which is noted.
-pub fn store_noted(
-    m: &mut [u8],
-    places: &mut [u32; 201],
-    words: &mut [[u8; 4]; 200],
-    w: Width,
-    pa: u32,
-    v: u32,
-) -> u64
-    ensures { λ r. ⌜ gave (answerOf r) (journaled (now (m .exit)) (now (places .exit)) (now (words .exit))) ≡ followed (writes (regimeFor 0 true true) w 0 v) (walked.Direct pa) (journaled (now (m .entry)) (now (places .entry)) (now (words .entry))) ⌝ }
+pub fn store_noted(m: &mut [u8], journal: &mut [u64; 201], w: Width, pa: u32, v: u32) -> u64
+    ensures { λ r. ⌜ gave (answerOf r) (journaled (now (m .exit)) (now (journal .exit))) ≡ followed (writes (regimeFor 0 true true) w 0 v) (walked.Direct pa) (journaled (now (m .entry)) (now (journal .entry))) ⌝ }
 {
     if pa as usize + word::widths::bytes(w) as usize <= m.len() {
-        note(m, places, words, pa / 4 * 4);
+        note(m, journal, pa / 4 * 4);
         store(m, w, pa, v)
     } else {
         raised(10)
@@ -100,23 +91,22 @@ pub fn store_noted(
 
 fn write_walked(
     m: &mut [u8],
-    places: &mut [u32; 201],
-    words: &mut [[u8; 4]; 200],
+    journal: &mut [u64; 201],
     w: Width,
     stb: u32,
     user: bool,
     a: u32,
     v: u32,
 ) -> u64
-    ensures { λ r. ⌜ gave (answerOf r) (journaled (now (m .exit)) (now (places .exit)) (now (words .exit))) ≡ followed (writes (regimeFor stb user true) w a v) (walk user stb kind.Write a (now (m .entry))) (journaled (now (m .entry)) (now (places .entry)) (now (words .entry))) ⌝ }
+    ensures { λ r. ⌜ gave (answerOf r) (journaled (now (m .exit)) (now (journal .exit))) ≡ followed (writes (regimeFor stb user true) w a v) (walk user stb kind.Write a (now (m .entry))) (journaled (now (m .entry)) (now (journal .entry))) ⌝ }
 {
     let x = translate(m, user, stb, Kind::Write, a);
     match x {
         Walk::Fault(c) => raised(c),
-        Walk::Direct(pa) => store_noted(m, places, words, w, pa, v),
+        Walk::Direct(pa) => store_noted(m, journal, w, pa, v),
         Walk::Paged(p, pa) => {
-            record_entry(m, places, words, Kind::Write, p);
-            store_noted(m, places, words, w, pa, v)
+            record_entry(m, journal, Kind::Write, p);
+            store_noted(m, journal, w, pa, v)
         }
     }
 }
@@ -124,8 +114,7 @@ fn write_walked(
 // A store of the low bytes of v.
 pub fn write(
     m: &mut [u8],
-    places: &mut [u32; 201],
-    words: &mut [[u8; 4]; 200],
+    journal: &mut [u64; 201],
     w: Width,
     stb: u32,
     user: bool,
@@ -133,35 +122,28 @@ pub fn write(
     a: u32,
     v: u32,
 ) -> u64
-    ensures { λ r. ⌜ gave (answerOf r) (journaled (now (m .exit)) (now (places .exit)) (now (words .exit))) ≡ logging (writes (regimeFor stb user translated) w a v) (journaled (now (m .entry)) (now (places .entry)) (now (words .entry))) ⌝ }
+    ensures { λ r. ⌜ gave (answerOf r) (journaled (now (m .exit)) (now (journal .exit))) ≡ logging (writes (regimeFor stb user translated) w a v) (journaled (now (m .entry)) (now (journal .entry))) ⌝ }
 {
     if aligned(w, a) {
         if translated {
-            write_walked(m, places, words, w, stb, user, a, v)
+            write_walked(m, journal, w, stb, user, a, v)
         } else {
-            store_noted(m, places, words, w, a, v)
+            store_noted(m, journal, w, a, v)
         }
     } else {
         raised(4)
     }
 }
 
-fn fetch_walked(
-    m: &mut [u8],
-    places: &mut [u32; 201],
-    words: &mut [[u8; 4]; 200],
-    stb: u32,
-    user: bool,
-    a: u32,
-) -> u64
-    ensures { λ r. ⌜ gave (answerOf r) (journaled (now (m .exit)) (now (places .exit)) (now (words .exit))) ≡ followed (fetches (regimeFor stb user true) a) (walk user stb kind.Fetch (a / 2 * 2) (now (m .entry))) (journaled (now (m .entry)) (now (places .entry)) (now (words .entry))) ⌝ }
+fn fetch_walked(m: &mut [u8], journal: &mut [u64; 201], stb: u32, user: bool, a: u32) -> u64
+    ensures { λ r. ⌜ gave (answerOf r) (journaled (now (m .exit)) (now (journal .exit))) ≡ followed (fetches (regimeFor stb user true) a) (walk user stb kind.Fetch (a / 2 * 2) (now (m .entry))) (journaled (now (m .entry)) (now (journal .entry))) ⌝ }
 {
     let x = translate(m, user, stb, Kind::Fetch, a / 2 * 2);
     match x {
         Walk::Fault(c) => raised(c),
         Walk::Direct(pa) => load_half(m, pa),
         Walk::Paged(p, pa) => {
-            record_entry(m, places, words, Kind::Fetch, p);
+            record_entry(m, journal, Kind::Fetch, p);
             load_half(m, pa)
         }
     }
@@ -170,17 +152,16 @@ fn fetch_walked(
 // A parcel of text.
 pub fn fetch(
     m: &mut [u8],
-    places: &mut [u32; 201],
-    words: &mut [[u8; 4]; 200],
+    journal: &mut [u64; 201],
     stb: u32,
     user: bool,
     translated: bool,
     a: u32,
 ) -> u64
-    ensures { λ r. ⌜ gave (answerOf r) (journaled (now (m .exit)) (now (places .exit)) (now (words .exit))) ≡ logging (fetches (regimeFor stb user translated) a) (journaled (now (m .entry)) (now (places .entry)) (now (words .entry))) ⌝ }
+    ensures { λ r. ⌜ gave (answerOf r) (journaled (now (m .exit)) (now (journal .exit))) ≡ logging (fetches (regimeFor stb user translated) a) (journaled (now (m .entry)) (now (journal .entry))) ⌝ }
 {
     if translated {
-        fetch_walked(m, places, words, stb, user, a)
+        fetch_walked(m, journal, stb, user, a)
     } else {
         load_half(m, a / 2 * 2)
     }

@@ -1,119 +1,120 @@
 -- The journal puts memory back exactly, whatever program was interpreted, if it asks for no more than the journal has room for.
 -- Assumes nothing.
-use Prim.Native.Nat.{ℕ, zero, suc, _+_, _<_, _≤_, min}
+use Prim.Native.Nat.{ℕ, zero, suc, _+_, _*_, _/_, _%_, _^_, _<_, _≤_, min}
 use native.Mathlib.Nat.{min-eq-left, le-of-lt}
 use mathlib.Core.Path.{_≡_, refl, sym, ap, _∙_}
 use mathlib.Core.Bool.{true}
-use mathlib.Core.List.{List, []}
+use mathlib.Core.Logic.{inl, inr}
 use native.Mathlib.Omega.{arith}
-use native.Mathlib.Decide.{ℕ-discrete}
+use native.Mathlib.Decide.{ℕ-discrete, decLt}
 use lib.ListN.{getD, set, length, length-set}
 use lib.Seq.{getD-set-same, getD-set-other, ext-getD}
-use borrow.Author.Tests.{lt-ltb}
-use Rattle.memory.specs.Bytes.{Memory, byteAt, holds}
-use Rattle.program.specs.Journal.{Journal, journal, room, count, fourBytes, note, restored, undone, undo}
+use borrow.Author.Tests.{lt-ltb, leb-true}
+use Rattle.memory.specs.Bytes.{Memory, byteAt, number, stored, holds, storeMemory}
+use Rattle.memory.proofs.Laws.{length-stored, byte-other}
+use Rattle.program.specs.Journal.{Journal, room, count, entry, note, restored, undone, undo}
+use Rattle.program.proofs.Bytes.{Bytes, number-lt}
 
 -- a memory n that differs from m only in the four bytes at a
 pub record Near (m : Memory) (a : ℕ) (n : Memory) : Type 0 where
   pub length : length n ≡ length m
   pub other : (x : ℕ) → (a ≤ x → x < a + 4 → ⊥) → byteAt n x ≡ byteAt m x
 
-length-restored : (m : Memory) (a : ℕ) (w : List ℕ) → length (restored m a w) ≡ length m
-unfolding restored
-length-restored m a w = simp length-set refl
-
-pub restored-near : (m : Memory) (a : ℕ) (n : Memory) → Near m a n → restored n a (fourBytes m a) ≡ m
-unfolding restored
-restored-near m a n r =
-    ext-getD 0 _ m (simp length-set (r .length))
-    (λ x h. at x (rw (length-restored n a (fourBytes m a), r .length) at h) (ℕ-discrete x (a + 3)) (ℕ-discrete x (a + 2)) (ℕ-discrete x (a + 1)) (ℕ-discrete x a))
+-- bytes stored as their number are those bytes again
+stored-back : (n : ℕ) (l m : Memory) (a : ℕ) → Bytes m → a + n ≤ length l → (x : ℕ) → a ≤ x → x < a + n
+    → byteAt (stored n l a (number n m a)) x ≡ byteAt m x
+stored-back zero l m a b h x from below = absurd (omega arith)
+stored-back (suc n) l m a b h x from below = rw (high, low) (at (ℕ-discrete x (a + n)) (λ k. stored-back n l m a b (omega arith) x from k))
   where
-    n1 : Memory
-    n1 = set n a (byteAt m a)
+    high : number (suc n) m a / 256 ≡ number n m a
+    high = omega (arith, b (a + n))
 
-    n2 : Memory
-    n2 = set n1 (a + 1) (byteAt m (a + 1))
+    low : number (suc n) m a % 256 ≡ byteAt m (a + n)
+    low = omega (arith, b (a + n))
 
-    n3 : Memory
-    n3 = set n2 (a + 2) (byteAt m (a + 2))
+    at : Dec (x ≡ a + n) → (x < a + n → byteAt (stored n l a (number n m a)) x ≡ byteAt m x)
+        → getD (set (stored n l a (number n m a)) (a + n) (byteAt m (a + n))) x 0 ≡ byteAt m x
+    at (yes e) f = rw e (getD-set-same (stored n l a (number n m a)) (a + n) (byteAt m (a + n)) 0 (simp length-stored (omega arith)))
+    at (no d) f = getD-set-other (stored n l a (number n m a)) (a + n) x (byteAt m (a + n)) 0 d ∙ f (omega arith)
 
-    v : ℕ
-    v = byteAt m (a + 3)
+entry-place : (a w : ℕ) → w < 2 ^ 32 → entry a w / 2 ^ 32 ≡ a
+entry-place a w h = omega arith
 
-    at : (x : ℕ) → x < length m → Dec (x ≡ a + 3) → Dec (x ≡ a + 2) → Dec (x ≡ a + 1) → Dec (x ≡ a) → getD (set n3 (a + 3) v) x 0 ≡ getD m x 0
-    at x h (yes p) e₂ e₁ e₀ = rw p (getD-set-same n3 (a + 3) v 0 (simp length-set (omega (arith, r .length))))
-    at x h (no d) (yes p) e₁ e₀ =
-        getD-set-other n3 (a + 3) x v 0 d ∙ rw p (getD-set-same n2 (a + 2) (byteAt m (a + 2)) 0 (simp length-set (omega (arith, r .length))))
-    at x h (no d) (no d₂) (yes p) e₀ =
-        getD-set-other n3 (a + 3) x v 0 d ∙ getD-set-other n2 (a + 2) x (byteAt m (a + 2)) 0 d₂
-        ∙ rw p (getD-set-same n1 (a + 1) (byteAt m (a + 1)) 0 (simp length-set (omega (arith, r .length))))
-    at x h (no d) (no d₂) (no d₁) (yes p) =
-        getD-set-other n3 (a + 3) x v 0 d ∙ getD-set-other n2 (a + 2) x (byteAt m (a + 2)) 0 d₂
-        ∙ getD-set-other n1 (a + 1) x (byteAt m (a + 1)) 0 d₁ ∙ rw p (getD-set-same n a (byteAt m a) 0 (omega (arith, r .length)))
-    at x h (no d) (no d₂) (no d₁) (no d₀) =
-        getD-set-other n3 (a + 3) x v 0 d ∙ getD-set-other n2 (a + 2) x (byteAt m (a + 2)) 0 d₂
-        ∙ getD-set-other n1 (a + 1) x (byteAt m (a + 1)) 0 d₁ ∙ getD-set-other n a x (byteAt m a) 0 d₀ ∙ r .other x (λ l u. omega arith)
+entry-word : (a w : ℕ) → w < 2 ^ 32 → entry a w % 2 ^ 32 ≡ w
+entry-word a w h = omega arith
+
+restored-entry : (n : Memory) (a w : ℕ) → w < 2 ^ 32 → holds n a 4 ≡ true → restored n (entry a w) ≡ stored 4 n a w
+unfolding restored storeMemory
+restored-entry n a w h f = rw (entry-place a w h, entry-word a w h, f) refl
+
+-- a change in the four bytes of an entry is put back
+module _ (m : Memory) (a : ℕ) (n : Memory) (b : Bytes m) (f : holds m a 4 ≡ true) (r : Near m a n) where
+  fits : a + 4 ≤ length n
+  fits = rw (r .length) (leb-true (a + 4) (length m) f)
+
+  same-byte : (x : ℕ) → Dec (x < a) → Dec (x < a + 4) → byteAt (stored 4 n a (number 4 m a)) x ≡ byteAt m x
+  same-byte x (yes l) e = byte-other 4 n a (number 4 m a) x (inl l) ∙ r .other x (λ g h. omega arith)
+  same-byte x (no l) (yes k) = stored-back 4 n m a b fits x (omega arith) k
+  same-byte x (no l) (no k) = byte-other 4 n a (number 4 m a) x (inr (omega arith)) ∙ r .other x (λ g h. omega arith)
+
+  restored-near : restored n (entry a (number 4 m a)) ≡ m
+  restored-near =
+      restored-entry n a (number 4 m a) (number-lt 4 m a b) (rw (r .length) f)
+      ∙ ext-getD 0 (stored 4 n a (number 4 m a)) m (length-stored 4 n a (number 4 m a) ∙ r .length) (λ x h. same-byte x (decLt x a) (decLt x (a + 4)))
 
 -- a journal of its size
-pub record Sized (j : Journal) : Type 0 where
-  pub places : length (j .places) ≡ 201
-  pub words : length (j .words) ≡ 200
+abbrev pub Sized : Journal → Type 0
+Sized j = length j ≡ 201
 
 -- the entries before the n-th decide what putting n of them back gives
-undone-same : (n : ℕ) (i j : Journal) (m : Memory)
-    → ((x : ℕ) → x < n → (getD (i .places) (suc x) 0 ≡ getD (j .places) (suc x) 0) × (getD (i .words) x [] ≡ getD (j .words) x []))
-    → undone n i m ≡ undone n j m
+undone-same : (n : ℕ) (i j : Journal) (m : Memory) → ((x : ℕ) → x < n → getD i (suc x) 0 ≡ getD j (suc x) 0) → undone n i m ≡ undone n j m
 unfolding undone
 undone-same zero i j m h = refl
-undone-same (suc n) i j m h = rw (h n (omega arith) .0, h n (omega arith) .1) (undone-same n i j _ (λ x l. h x (omega arith)))
+undone-same (suc n) i j m h = rw (h n (omega arith)) (undone-same n i j _ (λ x l. h x (omega arith)))
 
-undone-step : (k : ℕ) (i : Journal) (n : Memory) (a : ℕ) (w : List ℕ) → getD (i .places) (suc k) 0 ≡ a → getD (i .words) k [] ≡ w
-    → undone (suc k) i n ≡ undone k i (restored n a w)
+undone-step : (k : ℕ) (i : Journal) (n : Memory) (e : ℕ) → getD i (suc k) 0 ≡ e → undone (suc k) i n ≡ undone k i (restored n e)
 unfolding undone
-undone-step k i n a w p q = rw (← p, ← q) refl
+undone-step k i n e p = rw (← p) refl
 
 -- a note that has room
 module _ (a : ℕ) (m : Memory) (j : Journal) (s : Sized j) (h : count j < room) (f : holds m a 4 ≡ true) where
   abbrev entered : Journal
-  entered = journal (set (set (j .places) (count j + 1) a) 0 (count j + 1)) (set (j .words) (count j) (fourBytes m a))
+  entered = set (set j (count j + 1) (entry a (number 4 m a))) 0 (count j + 1)
 
   note-is : note a m j ≡ entered
   unfolding note
   note-is = rw (lt-ltb _ _ h, f) refl
 
   pub note-count : count (note a m j) ≡ count j + 1
-  note-count = ap count note-is ∙ getD-set-same (set (j .places) (count j + 1) a) 0 (count j + 1) 0 (simp length-set (omega (arith, s .places)))
+  note-count = ap count note-is ∙ getD-set-same (set j (count j + 1) (entry a (number 4 m a))) 0 (count j + 1) 0 (simp length-set (omega (arith, s)))
 
   pub note-sized : Sized (note a m j)
-  note-sized = rw note-is (record { places = simp length-set (s .places); words = simp length-set (s .words) })
+  note-sized = rw note-is (simp length-set s)
 
   -- a change in the four bytes noted is put back
-  pub note-undo : (n : Memory) → Near m a n → undo (note a m j) n ≡ undo j m
+  pub note-undo : Bytes m → (n : Memory) → Near m a n → undo (note a m j) n ≡ undo j m
   unfolding undo
-  note-undo n r =
+  note-undo b n r =
       ap (λ (x : ℕ). undone x (note a m j) n) (ap (λ (x : ℕ). min x room) (note-count ∙ up) ∙ min-eq-left h)
       ∙ ap (λ (i : Journal). undone (suc k) i n) note-is
-      ∙ undone-step k entered n a (fourBytes m a) place-k word-k
-      ∙ ap (λ (z : Memory). undone k entered z) (restored-near m a n r)
+      ∙ undone-step k entered n e last
+      ∙ ap (λ (z : Memory). undone k entered z) (restored-near m a n b f r)
       ∙ undone-same k entered j m before
       ∙ ap (λ (x : ℕ). undone x j m) (sym (min-eq-left (le-of-lt h)))
     where
       k : ℕ
       k = count j
 
+      e : ℕ
+      e = entry a (number 4 m a)
+
       up : k + 1 ≡ suc k
       up = omega arith
 
-      place-k : getD (set (set (j .places) (k + 1) a) 0 (k + 1)) (suc k) 0 ≡ a
-      place-k =
-          getD-set-other (set (j .places) (k + 1) a) 0 (suc k) (k + 1) 0 (omega arith)
-          ∙ ap (λ (x : ℕ). getD (set (j .places) (k + 1) a) x 0) (sym up) ∙ getD-set-same (j .places) (k + 1) a 0 (omega (arith, s .places, h))
+      last : getD (set (set j (k + 1) e) 0 (k + 1)) (suc k) 0 ≡ e
+      last =
+          getD-set-other (set j (k + 1) e) 0 (suc k) (k + 1) 0 (omega arith)
+          ∙ ap (λ (x : ℕ). getD (set j (k + 1) e) x 0) (sym up) ∙ getD-set-same j (k + 1) e 0 (omega (arith, s, h))
 
-      word-k : getD (set (j .words) k (fourBytes m a)) k [] ≡ fourBytes m a
-      word-k = getD-set-same (j .words) k (fourBytes m a) [] (omega (arith, s .words, h))
-
-      before : (x : ℕ) → x < k → (getD (entered .places) (suc x) 0 ≡ getD (j .places) (suc x) 0) × (getD (entered .words) x [] ≡ getD (j .words) x [])
-      before x l = (
-        getD-set-other (set (j .places) (k + 1) a) 0 (suc x) (k + 1) 0 (omega arith) ∙ getD-set-other (j .places) (k + 1) (suc x) a 0 (omega arith),
-        getD-set-other (j .words) k x (fourBytes m a) [] (omega arith),
-      )
+      before : (x : ℕ) → x < k → getD entered (suc x) 0 ≡ getD j (suc x) 0
+      before x l = getD-set-other (set j (k + 1) e) 0 (suc x) (k + 1) 0 (omega arith) ∙ getD-set-other j (k + 1) (suc x) e 0 (omega arith)

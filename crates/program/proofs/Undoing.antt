@@ -24,6 +24,7 @@ use Rattle.program.specs.Access.{Access, fetch, read, write, probe, regi
 use Rattle.program.specs.Program.{Program, ret, ask, interpret, plain}
 use Rattle.program.specs.Journal.{room, count, note, undo, touchNote, entryNote, walkNote, followNote, accessNote, Journaled, logging}
 use Rattle.program.proofs.Bounded.{Bounded}
+use Rattle.program.proofs.Bytes.{Bytes, stored-bytes, marked-bytes}
 use Rattle.program.proofs.Routes.{Ends, route-ends}
 use Rattle.program.proofs.Undo.{Near, Sized, note-count, note-sized, note-undo}
 
@@ -38,25 +39,27 @@ interpret-memory (ask q k) t =
 -- from t to u at most n entries more, which put back what was
 pub record Undoing (t u : Journaled) (n : ℕ) : Type 0 where
   pub length : length (u .memory) ≡ length (t .memory)
+  pub bytes : Bytes (u .memory)
   pub sized : Sized (u .log)
   pub most : count (u .log) ≤ count (t .log) + n
   pub undoes : undo (u .log) (u .memory) ≡ undo (t .log) (t .memory)
 
-still : (t : Journaled) (n : ℕ) → Sized (t .log) → Undoing t t n
-still t n s = record { length = refl; sized = s; most = omega arith; undoes = refl }
+still : (t : Journaled) (n : ℕ) → Bytes (t .memory) → Sized (t .log) → Undoing t t n
+still t n b s = record { length = refl; bytes = b; sized = s; most = omega arith; undoes = refl }
 
 chain : (t u v : Journaled) (a b : ℕ) → Undoing t u a → Undoing u v b → Undoing t v (a + b)
 chain t u v a b x y =
-    record { length = y .length ∙ x .length; sized = y .sized; most = omega (arith, x .most, y .most); undoes = y .undoes ∙ x .undoes }
+    record { length = y .length ∙ x .length; bytes = y .bytes; sized = y .sized; most = omega (arith, x .most, y .most); undoes = y .undoes ∙ x .undoes }
 
-one-note : (t : Journaled) (a : ℕ) (n : Memory) → Sized (t .log) → count (t .log) < room → holds (t .memory) a 4 ≡ true → Near (t .memory) a n
+one-note : (t : Journaled) (a : ℕ) (n : Memory) → Bytes (t .memory) → Bytes n → Sized (t .log) → count (t .log) < room → holds (t .memory) a 4 ≡ true → Near (t .memory) a n
     → Undoing t (record { memory = n; log = note a (t .memory) (t .log) }) 1
-one-note t a n s h f r =
+one-note t a n b c s h f r =
     record {
       length = r .length;
+      bytes = c;
       sized = note-sized a (t .memory) (t .log) s h f;
       most = omega (arith, note-count a (t .memory) (t .log) s h f);
-      undoes = note-undo a (t .memory) (t .log) s h f n r;
+      undoes = note-undo a (t .memory) (t .log) s h f b n r;
     }
 
 -- ---- a store stays in its word
@@ -95,21 +98,21 @@ entry-near m p v =
 
 -- ---- the parts of an access
 
-module _ (t : Journaled) (s : Sized (t .log)) (l : length (t .memory) % 4 ≡ 0) where
+module _ (t : Journaled) (bytes : Bytes (t .memory)) (s : Sized (t .log)) (l : length (t .memory) % 4 ≡ 0) where
   touch-undoing : (q : Access) (pa : ℕ) → count (t .log) < room → aligned q ≡ true → pa % 4 ≡ addressOf q % 4
       → Undoing t (record { memory = touch q pa (t .memory) .world; log = touchNote q pa (t .memory) (t .log) }) 1
   unfolding touch touchNote storeMemory
-  touch-undoing (fetch r a) pa h b e = still t 1 s
-  touch-undoing (read r w a) pa h b e = still t 1 s
-  touch-undoing (probe r a) pa h b e = still t 1 s
+  touch-undoing (fetch r a) pa h b e = still t 1 bytes s
+  touch-undoing (read r w a) pa h b e = still t 1 bytes s
+  touch-undoing (probe r a) pa h b e = still t 1 bytes s
   touch-undoing (write r w a v) pa h b e = go (holds (t .memory) pa (bytesOf w)) refl
     where
       go : (c : Bool) → holds (t .memory) pa (bytesOf w) ≡ c
           → Undoing t (record { memory = cond c (stored (bytesOf w) (t .memory) pa v) (t .memory); log = cond c (note (pa / 4 * 4) (t .memory) (t .log)) (t .log) }) 1
       go true f =
-          one-note t (pa / 4 * 4) _ s h (word-held (bytesOf w) (t .memory) pa l (some w) f)
+          one-note t (pa / 4 * 4) _ bytes (stored-bytes (bytesOf w) (t .memory) pa v bytes) s h (word-held (bytesOf w) (t .memory) pa l (some w) f)
           (store-near (bytesOf w) (t .memory) pa v (inside w (addressOf (write r w a v)) pa (eqb-true _ _ b) e))
-      go false f = still t 1 s
+      go false f = still t 1 bytes s
 
   entry-undoing : (k : Kind) (p : ℕ) → count (t .log) < room → holds (t .memory) p 4 ≡ true
       → Undoing t (record { memory = recorded k p (t .memory); log = entryNote k p (t .memory) (t .log) }) 1
@@ -117,8 +120,8 @@ module _ (t : Journaled) (s : Sized (t .log)) (l : length (t .memory) % 4 ≡ 0)
   entry-undoing k p h f = go (fresh k p (t .memory))
     where
       go : (c : Bool) → Undoing t (record { memory = cond c (set (t .memory) (p + 3) (marked k (byteAt (t .memory) (p + 3)))) (t .memory); log = cond c (note p (t .memory) (t .log)) (t .log) }) 1
-      go true = one-note t p _ s h f (entry-near (t .memory) p _)
-      go false = still t 1 s
+      go true = one-note t p _ bytes (marked-bytes k p (t .memory) bytes) s h f (entry-near (t .memory) p _)
+      go false = still t 1 bytes s
 
   walk-undoing : (q : Access) (p : ℕ) → count (t .log) < room → holds (t .memory) p 4 ≡ true
       → Undoing t (record { memory = noted q p (t .memory); log = walkNote q p (t .memory) (t .log) }) 1
@@ -126,20 +129,20 @@ module _ (t : Journaled) (s : Sized (t .log)) (l : length (t .memory) % 4 ≡ 0)
   walk-undoing (fetch r a) p h f = entry-undoing Fetch p h f
   walk-undoing (read r w a) p h f = entry-undoing Read p h f
   walk-undoing (write r w a v) p h f = entry-undoing Write p h f
-  walk-undoing (probe r a) p h f = still t 1 s
+  walk-undoing (probe r a) p h f = still t 1 bytes s
 
-module _ (q : Access) (t : Journaled) (s : Sized (t .log)) (l : length (t .memory) % 4 ≡ 0) (h : count (t .log) + 2 ≤ room) where
+module _ (q : Access) (t : Journaled) (bytes : Bytes (t .memory)) (s : Sized (t .log)) (l : length (t .memory) % 4 ≡ 0) (h : count (t .log) + 2 ≤ room) where
   follow-undoing : (w : Walk) → aligned q ≡ true → Ends (t .memory) (addressOf q) w
       → Undoing t (record { memory = follow q (t .memory) w .world; log = followNote q (t .memory) w (t .log) }) 2
   unfolding follow followNote
-  follow-undoing (Fault c) b e = still t 2 s
+  follow-undoing (Fault c) b e = still t 2 bytes s
   follow-undoing (Direct pa) b e =
-      let u = touch-undoing t s l q pa (omega arith) b e in
-      record { length = u .length; sized = u .sized; most = omega (arith, u .most); undoes = u .undoes }
+      let u = touch-undoing t bytes s l q pa (omega arith) b e in
+      record { length = u .length; bytes = u .bytes; sized = u .sized; most = omega (arith, u .most); undoes = u .undoes }
   follow-undoing (Paged p pa) b e =
-      let u = walk-undoing t s l q p (omega arith) (e .1) in
+      let u = walk-undoing t bytes s l q p (omega arith) (e .1) in
       let v : Journaled = record { memory = noted q p (t .memory); log = walkNote q p (t .memory) (t .log) } in
-      chain t v _ 1 1 u (touch-undoing v (u .sized) (ap (λ (n : ℕ). n % 4) (u .length) ∙ l) q pa (omega (arith, u .most)) b (e .0))
+      chain t v _ 1 1 u (touch-undoing v (u .bytes) (u .sized) (ap (λ (n : ℕ). n % 4) (u .length) ∙ l) q pa (omega (arith, u .most)) b (e .0))
 
   pub access-undoing : Undoing t (logging q t .world) 2
   unfolding logging access accessNote
@@ -151,16 +154,16 @@ module _ (q : Access) (t : Journaled) (s : Sized (t .log)) (l : length (t .memor
       go : (b : Bool) → aligned q ≡ b
           → Undoing t (record { memory = cond b (follow q (t .memory) w) (gave (bad alignmentFault) (t .memory)) .world; log = cond b (followNote q (t .memory) w (t .log)) (t .log) }) 2
       go true e = follow-undoing w e (route-ends (regimeOf q) (kindOf q) (addressOf q) (t .memory))
-      go false e = still t 2 s
+      go false e = still t 2 bytes s
 
 -- a program of at most n accesses
 pub interpret-undoing : {A : Type 0} (Q : Access → Type 0) (P : A → Type 0) (n : ℕ) (p : Program A) (t : Journaled) → Bounded Q P n p
-    → Sized (t .log) → length (t .memory) % 4 ≡ 0 → count (t .log) + 2 * n ≤ room → Undoing t (interpret logging p t .world) (2 * n)
+    → Bytes (t .memory) → Sized (t .log) → length (t .memory) % 4 ≡ 0 → count (t .log) + 2 * n ≤ room → Undoing t (interpret logging p t .world) (2 * n)
 unfolding interpret
-interpret-undoing Q P n (ret a) t b s l h = still t (2 * n) s
-interpret-undoing Q P zero (ask q k) t b s l h = absurd b
-interpret-undoing Q P (suc n) (ask q k) t b s l h =
-    let u = access-undoing q t s l (omega arith) in
-    let v = interpret-undoing Q P n (k (logging q t .out)) (logging q t .world) (b .1 (logging q t .out)) (u .sized)
+interpret-undoing Q P n (ret a) t b y s l h = still t (2 * n) y s
+interpret-undoing Q P zero (ask q k) t b y s l h = absurd b
+interpret-undoing Q P (suc n) (ask q k) t b y s l h =
+    let u = access-undoing q t y s l (omega arith) in
+    let v = interpret-undoing Q P n (k (logging q t .out)) (logging q t .world) (b .1 (logging q t .out)) (u .bytes) (u .sized)
     (ap (λ (x : ℕ). x % 4) (u .length) ∙ l) (omega (arith, u .most)) in
-    record { length = v .length ∙ u .length; sized = v .sized; most = omega (arith, u .most, v .most); undoes = v .undoes ∙ u .undoes }
+    record { length = v .length ∙ u .length; bytes = v .bytes; sized = v .sized; most = omega (arith, u .most, v .most); undoes = v .undoes ∙ u .undoes }

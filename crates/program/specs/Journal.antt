@@ -1,12 +1,12 @@
--- The journal of a step: the place of each word that changes with its four bytes of before, so that a refused step leaves nothing.
+-- The journal of a step: the place of each word that changes with the word of before, so that a refused step leaves nothing.
 -- Assumes nothing.
-use Prim.Native.Nat.{ℕ, zero, suc, _+_, _*_, _/_, min}
+use Prim.Native.Nat.{ℕ, zero, suc, _+_, _*_, _/_, _%_, _^_, min}
 use mathlib.Core.Bool.{cond, _&&_}
-use mathlib.Core.List.{List, [], _∷_}
+use mathlib.Core.List.{List}
 use lib.ListN.{getD, set}
 use lib.Dec.{ltb}
 use Rattle.word.specs.Widths.{bytesOf}
-use Rattle.memory.specs.Bytes.{Memory, byteAt, holds}
+use Rattle.memory.specs.Bytes.{Memory, number, holds, storeMemory}
 use Rattle.mmu.specs.declared.Kind.{Kind}
 use Rattle.mmu.specs.declared.Walk.{Walk}
 use Rattle.mmu.specs.declared.Walk.the-variants.{Fault, Direct, Paged}
@@ -14,38 +14,32 @@ use Rattle.mmu.specs.Walk.{route, fresh}
 use Rattle.program.specs.Access.{Access, fetch, read, write, probe, regimeOf, kindOf, addressOf, aligned, gave, noted, access}
 use Rattle.program.specs.Program.{Handler}
 
--- places holds the number of entries and then their addresses, words their bytes
-pub record Journal : Type 0 where
-  pub places : List ℕ
-  pub words : List (List ℕ)
-
-abbrev pub journal : List ℕ → List (List ℕ) → Journal
-journal p w = record { places = p; words = w }
+-- the number of entries, then each of them as one number: its address times 2 ^ 32, and the word that stood there
+abbrev pub Journal : Type 0
+Journal = List ℕ
 
 abbrev pub room : ℕ
 room = 200
 
 abbrev pub count : Journal → ℕ
-count j = getD (j .places) 0 0
+count j = getD j 0 0
 
-abbrev pub fourBytes : Memory → ℕ → List ℕ
-fourBytes m a = byteAt m a ∷ byteAt m (a + 1) ∷ byteAt m (a + 2) ∷ byteAt m (a + 3) ∷ []
+abbrev pub entry : ℕ → ℕ → ℕ
+entry a w = a * 2 ^ 32 + w
 
 -- the word at a, as it is; a full journal drops the entry, and a step never fills it
 unfoldable pub note : ℕ → Memory → Journal → Journal
 note a m j =
-    cond (ltb (count j) room && holds m a 4)
-    (journal (set (set (j .places) (count j + 1) a) 0 (count j + 1)) (set (j .words) (count j) (fourBytes m a)))
-    j
+    cond (ltb (count j) room && holds m a 4) (set (set j (count j + 1) (entry a (number 4 m a))) 0 (count j + 1)) j
 
--- four bytes put back
-unfoldable pub restored : Memory → ℕ → List ℕ → Memory
-restored m a w = set (set (set (set m a (getD w 0 0)) (a + 1) (getD w 1 0)) (a + 2) (getD w 2 0)) (a + 3) (getD w 3 0)
+-- an entry's word put back
+unfoldable pub restored : Memory → ℕ → Memory
+restored m e = storeMemory 4 m (e / 2 ^ 32) (e % 2 ^ 32)
 
 -- the first n entries put back, the last one first
 unfoldable pub undone : ℕ → Journal → Memory → Memory
 undone zero j m = m
-undone (suc n) j m = undone n j (restored m (getD (j .places) (suc n) 0) (getD (j .words) n []))
+undone (suc n) j m = undone n j (restored m (getD j (suc n) 0))
 
 -- all of them: no journal of a step counts more than there is room for
 unfoldable pub undo : Journal → Memory → Memory
@@ -80,8 +74,8 @@ pub record Journaled : Type 0 where
   pub memory : Memory
   pub log : Journal
 
-abbrev pub journaled : Memory → List ℕ → List (List ℕ) → Journaled
-journaled m p w = record { memory = m; log = journal p w }
+abbrev pub journaled : Memory → Journal → Journaled
+journaled m j = record { memory = m; log = j }
 
 unfoldable pub logging : Handler Journaled
 logging q t =

@@ -6,53 +6,29 @@ use Rattle.handler.proofs.journal.note.Tie as tie
 element-copy-out-n : tie.Need-element-copy-out-n
 element-copy-out-n c = search needs
 
-add-if2 : tie.Need-add-if2
-add-if2 c = search needs
+load-word-requires : tie.Need-load-word-requires
+load-word-requires c κs = search needs
 
-cast-k : tie.Need-cast-k
-cast-k c = search needs
+mul-journal : tie.Need-mul-journal
+mul-journal c = search needs
 
-add-places : tie.Need-add-places
-add-places c = search needs
+add-journal : tie.Need-add-journal
+add-journal c = search needs
 
-mul-places : tie.Need-mul-places
-mul-places c = search needs
+add-journal-2 : tie.Need-add-journal-2
+add-journal-2 c = search needs
 
-element-write-places : tie.Need-element-write-places
-element-write-places c = search needs
+mul-journal-2 : tie.Need-mul-journal-2
+mul-journal-2 c = search needs
 
-add-places-2 : tie.Need-add-places-2
-add-places-2 c = search needs
+element-write-journal : tie.Need-element-write-journal
+element-write-journal c = search needs
 
-element-write-places-2 : tie.Need-element-write-places-2
-element-write-places-2 c = search needs
+add-journal-3 : tie.Need-add-journal-3
+add-journal-3 c = search needs
 
-shared-slice-read-t23 : tie.Need-shared-slice-read-t23
-shared-slice-read-t23 c = search needs
-
-add-t15 : tie.Need-add-t15
-add-t15 c = search needs
-
-shared-slice-read-t25 : tie.Need-shared-slice-read-t25
-shared-slice-read-t25 c = search needs
-
-add-t16 : tie.Need-add-t16
-add-t16 c = search needs
-
-shared-slice-read-t27 : tie.Need-shared-slice-read-t27
-shared-slice-read-t27 c = search needs
-
-add-t28 : tie.Need-add-t28
-add-t28 c = search needs
-
-shared-slice-read-t30 : tie.Need-shared-slice-read-t30
-shared-slice-read-t30 c = search needs
-
-mul-t32 : tie.Need-mul-t32
-mul-t32 c = search needs
-
-element-set-from-words : tie.Need-element-set-from-words
-element-set-from-words c = search needs
+element-write-journal-2 : tie.Need-element-write-journal-2
+element-write-journal-2 c = search needs
 
 returns : tie.Need-returns
 returns c = search (needs, note-made)
@@ -68,22 +44,14 @@ note-spec =
     tie.close
     (tie.spec
     element-copy-out-n
-    add-if2
-    cast-k
-    add-places
-    mul-places
-    element-write-places
-    add-places-2
-    element-write-places-2
-    shared-slice-read-t23
-    add-t15
-    shared-slice-read-t25
-    add-t16
-    shared-slice-read-t27
-    add-t28
-    shared-slice-read-t30
-    mul-t32
-    element-set-from-words
+    load-word-requires
+    mul-journal
+    add-journal
+    add-journal-2
+    mul-journal-2
+    element-write-journal
+    add-journal-3
+    element-write-journal-2
     returns
     returns-2
     returns-3)

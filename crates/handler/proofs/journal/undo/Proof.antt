@@ -4,10 +4,10 @@ use Rattle.handler.proofs.journal.undo.Statement.{statement}
 use Rattle.handler.proofs.journal.undo.Tie as tie
 
 abbrev Inv-loop : tie.InvT-loop
-Inv-loop m₀ places words i₀ m i = PuttingBack places words m₀ m i
+Inv-loop m₀ journal i₀ m i = PuttingBack journal m₀ m i
 
 abbrev μ-loop : tie.MeasureT-loop
-μ-loop m₀ places words i₀ m i = i
+μ-loop m₀ journal i₀ m i = i
 
 entries-requires : tie.Need-entries-requires Inv-loop μ-loop
 entries-requires c κs = search needs
@@ -20,15 +20,6 @@ mul-restore c = search needs
 
 element-copy-out-restore : tie.Need-element-copy-out-restore Inv-loop μ-loop
 element-copy-out-restore c = search needs
-
-sub-restore : tie.Need-sub-restore Inv-loop μ-loop
-sub-restore c = search needs
-
-mul-restore-2 : tie.Need-mul-restore-2 Inv-loop μ-loop
-mul-restore-2 c = search needs
-
-element-copy-out-restore-2 : tie.Need-element-copy-out-restore-2 Inv-loop μ-loop
-element-copy-out-restore-2 c = search needs
 
 restore-requires : tie.Need-restore-requires Inv-loop μ-loop
 restore-requires c κs = search needs
@@ -58,9 +49,6 @@ undo-spec =
     loop-holds
     mul-restore
     element-copy-out-restore
-    sub-restore
-    mul-restore-2
-    element-copy-out-restore-2
     restore-requires
     sub-i
     loop-less
