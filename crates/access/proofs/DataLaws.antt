@@ -3,7 +3,7 @@
 use Prim.Native.Nat.{ℕ, _%_}
 use mathlib.Core.Path.{_≡_, refl, sym, ap, _∙_}
 use mathlib.Core.Bool.{Bool, true, false, cond}
-use mathlib.Core.List.{List, []}
+use mathlib.Core.List.{[]}
 use native.Mathlib.Omega.{arith}
 use lib.ListN.{getD}
 use borrow.Author.Tests.{eq-eqb}
@@ -14,7 +14,7 @@ use Rattle.memory.specs.Answers.{Answer, got, bad}
 use Rattle.memory.specs.Bytes.{Memory, placeOf}
 use Rattle.program.specs.Access.{read, write, probe, fetch, alignmentFault, Gave, gave}
 use Rattle.program.specs.Program.{ret, interpret, after}
-use Rattle.program.specs.Journal.{Journaled, journaled, logging}
+use Rattle.program.specs.Journal.{Journal, Journaled, journaled, logging}
 use Rattle.machine.specs.Registers.{Bank}
 use Rattle.machine.specs.Cache.{Cache, cacheRead, cacheWrite}
 use Rattle.machine.specs.Status.{Cpu, cpu, cached, isLittle, isUser, isVirtual, regime, kernelRegime}
@@ -78,32 +78,32 @@ module _ (b : Bank) (q : Cache) (w : Width) (a : ℕ) where
 
   -- ---- the cache or memory
 
-  module _ (m : Memory) (i : List ℕ) (o : List (List ℕ)) where
+  module _ (m : Memory) (i : Journal) where
     pub data-cached : (h : Bool) (x : Answer) → h ≡ cached b a → h ≡ true
         → gave (replied (cpu b q) a x) (onlyMemory []) ≡ interpret logging (readCached (cpu b q) w a) (onlyMemory [])
-        → gave (replied (cpu b q) a x) (journaled m i o) ≡ interpret logging (readData (cpu b q) w a) (journaled m i o)
+        → gave (replied (cpu b q) a x) (journaled m i) ≡ interpret logging (readData (cpu b q) w a) (journaled m i)
     unfolding readData
-    data-cached h x e t f = rw (sym e ∙ t) (cached-any (replied (cpu b q) a x) (journaled m i o) f)
+    data-cached h x e t f = rw (sym e ∙ t) (cached-any (replied (cpu b q) a x) (journaled m i) f)
 
-    pub data-memory : (h l u v : Bool) (p : ℕ) (x : Answer) (n : Memory) (j : List ℕ) (k : List (List ℕ)) → h ≡ cached b a → h ≡ false → l ≡ isLittle b → p ≡ placeOf l w a
-        → u ≡ isUser b → v ≡ isVirtual b → gave x (journaled n j k) ≡ logging (read (regimeFor (getD b 9 0) u v) w p) (journaled m i o)
-        → gave (replied (cpu b q) a x) (journaled n j k) ≡ interpret logging (readData (cpu b q) w a) (journaled m i o)
+    pub data-memory : (h l u v : Bool) (p : ℕ) (x : Answer) (n : Memory) (j : Journal) → h ≡ cached b a → h ≡ false → l ≡ isLittle b → p ≡ placeOf l w a
+        → u ≡ isUser b → v ≡ isVirtual b → gave x (journaled n j) ≡ logging (read (regimeFor (getD b 9 0) u v) w p) (journaled m i)
+        → gave (replied (cpu b q) a x) (journaled n j) ≡ interpret logging (readData (cpu b q) w a) (journaled m i)
     unfolding readData readMemory request interpret
-    data-memory h l u v p x n j k e t el ep eu ev f =
+    data-memory h l u v p x n j e t el ep eu ev f =
         rw (sym e ∙ t, ← el, ← ep, ← eu, ← ev) (ap (λ (g : Gave Journaled Answer). gave (replied (cpu b q) a (g .out)) (g .world)) f)
 
     pub stored-cached : (y : ℕ) (h : Bool) (x : Answer) (s : Cache) → h ≡ cached b a → h ≡ true
         → gave (wrote (cpu b s) a x) (onlyMemory []) ≡ interpret logging (writeCached (cpu b q) w a y) (onlyMemory [])
-        → gave (wrote (cpu b s) a x) (journaled m i o) ≡ interpret logging (writeData (cpu b q) w a y) (journaled m i o)
+        → gave (wrote (cpu b s) a x) (journaled m i) ≡ interpret logging (writeData (cpu b q) w a y) (journaled m i)
     unfolding writeData
-    stored-cached y h x s e t f = rw (sym e ∙ t) (cached-write-any y (wrote (cpu b s) a x) (journaled m i o) f)
+    stored-cached y h x s e t f = rw (sym e ∙ t) (cached-write-any y (wrote (cpu b s) a x) (journaled m i) f)
 
-    pub stored-memory : (y : ℕ) (h l u v : Bool) (p : ℕ) (x : Answer) (n : Memory) (j : List ℕ) (k : List (List ℕ)) → h ≡ cached b a → h ≡ false → l ≡ isLittle b → p ≡ placeOf l w a
-        → u ≡ isUser b → v ≡ isVirtual b → gave x (journaled n j k) ≡ logging (write (regimeFor (getD b 9 0) u v) w p y) (journaled m i o)
-        → gave (wrote (cpu b q) a x) (journaled n j k) ≡ interpret logging (writeData (cpu b q) w a y) (journaled m i o)
+    pub stored-memory : (y : ℕ) (h l u v : Bool) (p : ℕ) (x : Answer) (n : Memory) (j : Journal) → h ≡ cached b a → h ≡ false → l ≡ isLittle b → p ≡ placeOf l w a
+        → u ≡ isUser b → v ≡ isVirtual b → gave x (journaled n j) ≡ logging (write (regimeFor (getD b 9 0) u v) w p y) (journaled m i)
+        → gave (wrote (cpu b q) a x) (journaled n j) ≡ interpret logging (writeData (cpu b q) w a y) (journaled m i)
     unfolding writeData writeMemory request interpret _>>=_ after onward
-    stored-memory y h l u v p x n j k e t el ep eu ev f =
-        rw (sym e ∙ t, ← el, ← ep, ← eu, ← ev) (wrote-is x (journaled n j k) ∙ ap (λ (g : Gave Journaled Answer). interpret logging (onward (λ _. done (cpu b q)) (replied (cpu b q) a (g .out))) (g .world)) f)
+    stored-memory y h l u v p x n j e t el ep eu ev f =
+        rw (sym e ∙ t, ← el, ← ep, ← eu, ← ev) (wrote-is x (journaled n j) ∙ ap (λ (g : Gave Journaled Answer). interpret logging (onward (λ _. done (cpu b q)) (replied (cpu b q) a (g .out))) (g .world)) f)
       where
         wrote-is : (z : Answer) (u : Journaled) → gave (wrote (cpu b q) a z) u ≡ interpret logging (onward (λ _. done (cpu b q)) (replied (cpu b q) a z)) u
         wrote-is (got y) u = refl

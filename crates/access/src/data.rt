@@ -36,20 +36,19 @@ fn read_cached(q: &[[u32; 4]; 16], r: &[u32; 17], w: Width, a: u32) -> u64
 // An operand as an unsigned number.
 pub fn read_data(
     m: &mut [u8],
-    places: &mut [u32; 201],
-    words: &mut [[u8; 4]; 200],
+    journal: &mut [u64; 201],
     q: &[[u32; 4]; 16],
     r: &[u32; 17],
     w: Width,
     a: u32,
 ) -> u64
-    ensures { λ x. ⌜ gave (replied (cpu (now (r .entry)) (now (q .entry))) a (answerOf x)) (journaled (now (m .exit)) (now (places .exit)) (now (words .exit))) ≡ interpret logging (readData (cpu (now (r .entry)) (now (q .entry))) w a) (journaled (now (m .entry)) (now (places .entry)) (now (words .entry))) ⌝ }
+    ensures { λ x. ⌜ gave (replied (cpu (now (r .entry)) (now (q .entry))) a (answerOf x)) (journaled (now (m .exit)) (now (journal .exit))) ≡ interpret logging (readData (cpu (now (r .entry)) (now (q .entry))) w a) (journaled (now (m .entry)) (now (journal .entry))) ⌝ }
 {
     if cached(r, a) {
         read_cached(q, r, w, a)
     } else {
         let p = place(is_little(r), w, a);
-        handler::accesses::read(m, places, words, w, r[9], is_user(r), is_virtual(r), p)
+        handler::accesses::read(m, journal, w, r[9], is_user(r), is_virtual(r), p)
     }
 }
 
@@ -67,71 +66,41 @@ fn write_cached(q: &mut [[u32; 4]; 16], r: &[u32; 17], w: Width, a: u32, v: u32)
 // The low bytes of v to an operand.
 pub fn write_data(
     m: &mut [u8],
-    places: &mut [u32; 201],
-    words: &mut [[u8; 4]; 200],
+    journal: &mut [u64; 201],
     q: &mut [[u32; 4]; 16],
     r: &[u32; 17],
     w: Width,
     a: u32,
     v: u32,
 ) -> u64
-    ensures { λ x. ⌜ gave (wrote (cpu (now (r .entry)) (now (q .exit))) a (answerOf x)) (journaled (now (m .exit)) (now (places .exit)) (now (words .exit))) ≡ interpret logging (writeData (cpu (now (r .entry)) (now (q .entry))) w a v) (journaled (now (m .entry)) (now (places .entry)) (now (words .entry))) ⌝ }
+    ensures { λ x. ⌜ gave (wrote (cpu (now (r .entry)) (now (q .exit))) a (answerOf x)) (journaled (now (m .exit)) (now (journal .exit))) ≡ interpret logging (writeData (cpu (now (r .entry)) (now (q .entry))) w a v) (journaled (now (m .entry)) (now (journal .entry))) ⌝ }
 {
     if cached(r, a) {
         write_cached(q, r, w, a, v)
     } else {
         let p = place(is_little(r), w, a);
-        handler::accesses::write(m, places, words, w, r[9], is_user(r), is_virtual(r), p, v)
+        handler::accesses::write(m, journal, w, r[9], is_user(r), is_virtual(r), p, v)
     }
 }
 
 // A word of a frame or a vector, at kernel level.
-pub fn read_frame(
-    m: &mut [u8],
-    places: &mut [u32; 201],
-    words: &mut [[u8; 4]; 200],
-    r: &[u32; 17],
-    a: u32,
-) -> u64
-    ensures { λ x. ⌜ gave (answerOf x) (journaled (now (m .exit)) (now (places .exit)) (now (words .exit))) ≡ logging (reads (kernelRegime (now (r .entry))) width.Word a) (journaled (now (m .entry)) (now (places .entry)) (now (words .entry))) ⌝ }
+pub fn read_frame(m: &mut [u8], journal: &mut [u64; 201], r: &[u32; 17], a: u32) -> u64
+    ensures { λ x. ⌜ gave (answerOf x) (journaled (now (m .exit)) (now (journal .exit))) ≡ logging (reads (kernelRegime (now (r .entry))) width.Word a) (journaled (now (m .entry)) (now (journal .entry))) ⌝ }
 {
-    handler::accesses::read(m, places, words, Width::Word, r[9], false, is_virtual(r), a)
+    handler::accesses::read(m, journal, Width::Word, r[9], false, is_virtual(r), a)
 }
 
-pub fn write_frame(
-    m: &mut [u8],
-    places: &mut [u32; 201],
-    words: &mut [[u8; 4]; 200],
-    r: &[u32; 17],
-    a: u32,
-    v: u32,
-) -> u64
-    ensures { λ x. ⌜ gave (answerOf x) (journaled (now (m .exit)) (now (places .exit)) (now (words .exit))) ≡ logging (writes (kernelRegime (now (r .entry))) width.Word a v) (journaled (now (m .entry)) (now (places .entry)) (now (words .entry))) ⌝ }
+pub fn write_frame(m: &mut [u8], journal: &mut [u64; 201], r: &[u32; 17], a: u32, v: u32) -> u64
+    ensures { λ x. ⌜ gave (answerOf x) (journaled (now (m .exit)) (now (journal .exit))) ≡ logging (writes (kernelRegime (now (r .entry))) width.Word a v) (journaled (now (m .entry)) (now (journal .entry))) ⌝ }
 {
-    handler::accesses::write(
-        m,
-        places,
-        words,
-        Width::Word,
-        r[9],
-        false,
-        is_virtual(r),
-        a,
-        v,
-    )
+    handler::accesses::write(m, journal, Width::Word, r[9], false, is_virtual(r), a, v)
 }
 
 // A parcel of text.
-pub fn fetch_parcel(
-    m: &mut [u8],
-    places: &mut [u32; 201],
-    words: &mut [[u8; 4]; 200],
-    r: &[u32; 17],
-    a: u32,
-) -> u64
-    ensures { λ x. ⌜ gave (answerOf x) (journaled (now (m .exit)) (now (places .exit)) (now (words .exit))) ≡ logging (fetches (regime (now (r .entry))) a) (journaled (now (m .entry)) (now (places .entry)) (now (words .entry))) ⌝ }
+pub fn fetch_parcel(m: &mut [u8], journal: &mut [u64; 201], r: &[u32; 17], a: u32) -> u64
+    ensures { λ x. ⌜ gave (answerOf x) (journaled (now (m .exit)) (now (journal .exit))) ≡ logging (fetches (regime (now (r .entry))) a) (journaled (now (m .entry)) (now (journal .entry))) ⌝ }
 {
-    handler::accesses::fetch(m, places, words, r[9], is_user(r), is_virtual(r), a)
+    handler::accesses::fetch(m, journal, r[9], is_user(r), is_virtual(r), a)
 }
 
 // Whether stores at an address are valid at the current level.

@@ -33,19 +33,18 @@ pub struct Fetched {
 // Two parcels as a word, the first one high. (q stands in the contract alone.)
 fn fetch_two(
     m: &mut [u8],
-    places: &mut [u32; 201],
-    words: &mut [[u8; 4]; 200],
+    journal: &mut [u64; 201],
     q: &[[u32; 4]; 16],
     r: &[u32; 17],
     a: u32,
 ) -> u64
-    ensures { λ x. ⌜ gave (joinedOut (cpu (now (r .entry)) (now (q .entry))) (answerOf x)) (journaled (now (m .exit)) (now (places .exit)) (now (words .exit))) ≡ interpret logging (fetchTwo (cpu (now (r .entry)) (now (q .entry))) a) (journaled (now (m .entry)) (now (places .entry)) (now (words .entry))) ⌝ }
+    ensures { λ x. ⌜ gave (joinedOut (cpu (now (r .entry)) (now (q .entry))) (answerOf x)) (journaled (now (m .exit)) (now (journal .exit))) ≡ interpret logging (fetchTwo (cpu (now (r .entry)) (now (q .entry))) a) (journaled (now (m .entry)) (now (journal .entry))) ⌝ }
 {
-    let x = fetch_parcel(m, places, words, r, a);
+    let x = fetch_parcel(m, journal, r, a);
     if 0x1_0000_0000 <= x {
         return x;
     }
-    let y = fetch_parcel(m, places, words, r, plus(a, 2));
+    let y = fetch_parcel(m, journal, r, plus(a, 2));
     if 0x1_0000_0000 <= y {
         return y;
     }
@@ -55,14 +54,13 @@ fn fetch_two(
 // The parcels after p, which stand from a on.
 fn fetch_operands(
     m: &mut [u8],
-    places: &mut [u32; 201],
-    words: &mut [[u8; 4]; 200],
+    journal: &mut [u64; 201],
     q: &[[u32; 4]; 16],
     r: &[u32; 17],
     a: u32,
     p: u16,
 ) -> Operands
-    ensures { λ x. ⌜ gave (operandsOut (cpu (now (r .entry)) (now (q .entry))) p x) (journaled (now (m .exit)) (now (places .exit)) (now (words .exit))) ≡ interpret logging (fetchParcels (cpu (now (r .entry)) (now (q .entry))) a (following p)) (journaled (now (m .entry)) (now (places .entry)) (now (words .entry))) ⌝ }
+    ensures { λ x. ⌜ gave (operandsOut (cpu (now (r .entry)) (now (q .entry))) p x) (journaled (now (m .exit)) (now (journal .exit))) ≡ interpret logging (fetchParcels (cpu (now (r .entry)) (now (q .entry))) a (following p)) (journaled (now (m .entry)) (now (journal .entry))) ⌝ }
 {
     if p < 0x8000 {
         return Operands {
@@ -71,7 +69,7 @@ fn fetch_operands(
             destination: 0,
         };
     }
-    let x = fetch_two(m, places, words, q, r, a);
+    let x = fetch_two(m, journal, q, r, a);
     if 0x1_0000_0000 <= x {
         return Operands {
             fault: x,
@@ -87,7 +85,7 @@ fn fetch_operands(
             destination: 0,
         };
     }
-    let y = fetch_two(m, places, words, q, r, plus(a, 4));
+    let y = fetch_two(m, journal, q, r, plus(a, 4));
     if 0x1_0000_0000 <= y {
         return Operands {
             fault: y,
@@ -205,15 +203,14 @@ fn prefixed(p: u16, o: Operands) -> Text
 // The instruction whose first parcel p stands at PC.
 fn fetch_after(
     m: &mut [u8],
-    places: &mut [u32; 201],
-    words: &mut [[u8; 4]; 200],
+    journal: &mut [u64; 201],
     q: &[[u32; 4]; 16],
     r: &[u32; 17],
     p: u16,
 ) -> Fetched
-    ensures { λ x. ⌜ gave (textOut (cpu (now (r .entry)) (now (q .entry))) x) (journaled (now (m .exit)) (now (places .exit)) (now (words .exit))) ≡ interpret logging (fetchAfter (cpu (now (r .entry)) (now (q .entry))) p) (journaled (now (m .entry)) (now (places .entry)) (now (words .entry))) ⌝ }
+    ensures { λ x. ⌜ gave (textOut (cpu (now (r .entry)) (now (q .entry))) x) (journaled (now (m .exit)) (now (journal .exit))) ≡ interpret logging (fetchAfter (cpu (now (r .entry)) (now (q .entry))) p) (journaled (now (m .entry)) (now (journal .entry))) ⌝ }
 {
-    let o = fetch_operands(m, places, words, q, r, plus(r[5], 2), p);
+    let o = fetch_operands(m, journal, q, r, plus(r[5], 2), p);
     Fetched {
         fault: o.fault,
         text: bare(p, o),
@@ -222,14 +219,13 @@ fn fetch_after(
 
 fn fetch_prefixed(
     m: &mut [u8],
-    places: &mut [u32; 201],
-    words: &mut [[u8; 4]; 200],
+    journal: &mut [u64; 201],
     q: &[[u32; 4]; 16],
     r: &[u32; 17],
 ) -> Fetched
-    ensures { λ x. ⌜ gave (textOut (cpu (now (r .entry)) (now (q .entry))) x) (journaled (now (m .exit)) (now (places .exit)) (now (words .exit))) ≡ interpret logging (fetchPrefixed (cpu (now (r .entry)) (now (q .entry)))) (journaled (now (m .entry)) (now (places .entry)) (now (words .entry))) ⌝ }
+    ensures { λ x. ⌜ gave (textOut (cpu (now (r .entry)) (now (q .entry))) x) (journaled (now (m .exit)) (now (journal .exit))) ≡ interpret logging (fetchPrefixed (cpu (now (r .entry)) (now (q .entry)))) (journaled (now (m .entry)) (now (journal .entry))) ⌝ }
 {
-    let x = fetch_parcel(m, places, words, r, plus(r[5], 2));
+    let x = fetch_parcel(m, journal, r, plus(r[5], 2));
     if 0x1_0000_0000 <= x {
         return Fetched {
             fault: x,
@@ -237,7 +233,7 @@ fn fetch_prefixed(
         };
     }
     let p = parcel(x);
-    let o = fetch_operands(m, places, words, q, r, plus(r[5], 4), p);
+    let o = fetch_operands(m, journal, q, r, plus(r[5], 4), p);
     Fetched {
         fault: o.fault,
         text: prefixed(p, o),
@@ -247,14 +243,13 @@ fn fetch_prefixed(
 // All parcels that the instruction at PC calls for.
 pub fn fetch_text(
     m: &mut [u8],
-    places: &mut [u32; 201],
-    words: &mut [[u8; 4]; 200],
+    journal: &mut [u64; 201],
     q: &[[u32; 4]; 16],
     r: &[u32; 17],
 ) -> Fetched
-    ensures { λ x. ⌜ gave (textOut (cpu (now (r .entry)) (now (q .entry))) x) (journaled (now (m .exit)) (now (places .exit)) (now (words .exit))) ≡ interpret logging (fetchText (cpu (now (r .entry)) (now (q .entry)))) (journaled (now (m .entry)) (now (places .entry)) (now (words .entry))) ⌝ }
+    ensures { λ x. ⌜ gave (textOut (cpu (now (r .entry)) (now (q .entry))) x) (journaled (now (m .exit)) (now (journal .exit))) ≡ interpret logging (fetchText (cpu (now (r .entry)) (now (q .entry)))) (journaled (now (m .entry)) (now (journal .entry))) ⌝ }
 {
-    let x = fetch_parcel(m, places, words, r, r[5]);
+    let x = fetch_parcel(m, journal, r, r[5]);
     if 0x1_0000_0000 <= x {
         return Fetched {
             fault: x,
@@ -263,8 +258,8 @@ pub fn fetch_text(
     }
     let p = parcel(x);
     if p == 0x2C00 {
-        fetch_prefixed(m, places, words, q, r)
+        fetch_prefixed(m, journal, q, r)
     } else {
-        fetch_after(m, places, words, q, r, p)
+        fetch_after(m, journal, q, r, p)
     }
 }
