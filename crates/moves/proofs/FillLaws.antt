@@ -3,7 +3,7 @@
 use Prim.Native.Nat.{ℕ, suc, _+_, _-_, _/_, _%_, _^_, _<_, _≤_}
 use mathlib.Core.Path.{_≡_, refl, sym, _∙_}
 use mathlib.Core.Bool.{Bool, true, false}
-use mathlib.Core.List.{List, [], _∷_}
+use mathlib.Core.List.{[], _∷_}
 use native.Mathlib.Nat.{add-zero}
 use native.Mathlib.Omega.{arith}
 use lib.ListN.{getD, set, length}
@@ -19,7 +19,7 @@ use Rattle.handler.specs.Followed.{regimeFor}
 use Rattle.handler.specs.Quads.{Quad}
 use Rattle.program.specs.Access.{read, Gave, gave}
 use Rattle.program.specs.Program.{Program, interpret}
-use Rattle.program.specs.Journal.{Journaled, journaled, logging}
+use Rattle.program.specs.Journal.{Journal, Journaled, journaled, logging}
 use Rattle.machine.specs.Registers.{Bank}
 use Rattle.machine.specs.Cache.{Cache}
 use Rattle.machine.specs.Status.{Cpu, cpu}
@@ -97,16 +97,16 @@ module _ (b : Bank) (q : Cache) (g : Regime) (a : ℕ) where
 
 -- all four words found by one walk
 pub found-filled : (b : Bank) (q : Cache) (user : Bool) (stb a pa : ℕ) (m : Memory) → Quad user stb Read a m pa → a < 2 ^ 32 → (x0 x1 x2 x3 v0 v1 v2 v3 p : ℕ)
-    → ((o : List ℕ) (w : List (List ℕ)) → gave (answerOf x0) (journaled m o w) ≡ logging (read (regimeFor stb user true) Word (a + 0)) (journaled m o w)) → x0 < 2 ^ 32
-    → ((o : List ℕ) (w : List (List ℕ)) → gave (answerOf x1) (journaled m o w) ≡ logging (read (regimeFor stb user true) Word (a + 4)) (journaled m o w)) → x1 < 2 ^ 32
-    → ((o : List ℕ) (w : List (List ℕ)) → gave (answerOf x2) (journaled m o w) ≡ logging (read (regimeFor stb user true) Word (a + 8)) (journaled m o w)) → x2 < 2 ^ 32
-    → ((o : List ℕ) (w : List (List ℕ)) → gave (answerOf x3) (journaled m o w) ≡ logging (read (regimeFor stb user true) Word (a + 12)) (journaled m o w)) → x3 < 2 ^ 32
-    → v0 ≡ x0 % 2 ^ 32 → v1 ≡ x1 % 2 ^ 32 → v2 ≡ x2 % 2 ^ 32 → v3 ≡ x3 % 2 ^ 32 → p ≡ plusOf a 16 → (o : List ℕ) (w : List (List ℕ))
-    → gave (ended (answerOf x3) (set b 4 p) (set q (a / 16 % 16) (v0 ∷ v1 ∷ v2 ∷ v3 ∷ []))) (journaled m o w) ≡ interpret logging (fillQuad (cpu b q) (regimeFor stb user true) a) (journaled m o w)
-found-filled b q user stb a pa m k l x0 x1 x2 x3 v0 v1 v2 v3 p e0 h0 e1 h1 e2 h2 e3 h3 f0 f1 f2 f3 ep o w =
+    → ((o : Journal) → gave (answerOf x0) (journaled m o) ≡ logging (read (regimeFor stb user true) Word (a + 0)) (journaled m o)) → x0 < 2 ^ 32
+    → ((o : Journal) → gave (answerOf x1) (journaled m o) ≡ logging (read (regimeFor stb user true) Word (a + 4)) (journaled m o)) → x1 < 2 ^ 32
+    → ((o : Journal) → gave (answerOf x2) (journaled m o) ≡ logging (read (regimeFor stb user true) Word (a + 8)) (journaled m o)) → x2 < 2 ^ 32
+    → ((o : Journal) → gave (answerOf x3) (journaled m o) ≡ logging (read (regimeFor stb user true) Word (a + 12)) (journaled m o)) → x3 < 2 ^ 32
+    → v0 ≡ x0 % 2 ^ 32 → v1 ≡ x1 % 2 ^ 32 → v2 ≡ x2 % 2 ^ 32 → v3 ≡ x3 % 2 ^ 32 → p ≡ plusOf a 16 → (o : Journal)
+    → gave (ended (answerOf x3) (set b 4 p) (set q (a / 16 % 16) (v0 ∷ v1 ∷ v2 ∷ v3 ∷ []))) (journaled m o) ≡ interpret logging (fillQuad (cpu b q) (regimeFor stb user true) a) (journaled m o)
+found-filled b q user stb a pa m k l x0 x1 x2 x3 v0 v1 v2 v3 p e0 h0 e1 h1 e2 h2 e3 h3 f0 f1 f2 f3 ep o =
     let start = k .start in
-    quad-filled b q (regimeFor stb user true) a (journaled m o w) x0 (journaled m o w) (rw add-zero at (e0 o w)) (set b 4 p) h0 (a + 4) (omega arith) x1 (journaled m o w) (e1 o w)
-    h1 (a + 8) (omega arith) x2 (journaled m o w) (e2 o w) h2 (a + 12) (omega arith) x3 (journaled m o w) (e3 o w) h3 v0 v1 v2 v3 p f0 f1 f2 f3 ep refl
+    quad-filled b q (regimeFor stb user true) a (journaled m o) x0 (journaled m o) (rw add-zero at (e0 o)) (set b 4 p) h0 (a + 4) (omega arith) x1 (journaled m o) (e1 o)
+    h1 (a + 8) (omega arith) x2 (journaled m o) (e2 o) h2 (a + 12) (omega arith) x3 (journaled m o) (e3 o) h3 v0 v1 v2 v3 p f0 f1 f2 f3 ep refl
 
 -- the place that low32 takes from the answer of a search
 pub quad-at : (user : Bool) (stb : ℕ) (k : Kind) (a : ℕ) (m : Memory) (x p : ℕ) → (x < 2 ^ 32 → Quad user stb k a m x) → x < 2 ^ 32 → p ≡ x % 2 ^ 32 → Quad user stb k a m p
@@ -115,21 +115,21 @@ quad-at user stb k a m x p f h e = let d : p ≡ x = omega arith in rw d (f h)
 -- ---- the quad-words from MSP up
 
 -- where the loop stands: what is left of the fill gives what the whole gives
-pub record Filling (g : Regime) (target : ℕ) (m₀ : Memory) (i₀ : List ℕ) (o₀ : List (List ℕ)) (q₀ : Cache) (b₀ : Bank) (m : Memory) (i : List ℕ) (o : List (List ℕ)) (q : Cache) (b : Bank) (x n : ℕ) : Type 0 where
+pub record Filling (g : Regime) (target : ℕ) (m₀ : Memory) (i₀ : Journal) (q₀ : Cache) (b₀ : Bank) (m : Memory) (i : Journal) (q : Cache) (b : Bank) (x n : ℕ) : Type 0 where
   pub low : x < 2 ^ 32
   pub few : n ≤ 16
   pub long : length m ≡ length m₀
-  pub rest : interpret logging (fill g target n (cpu b q)) (journaled m i o) ≡ interpret logging (fill g target 16 (cpu b₀ q₀)) (journaled m₀ i₀ o₀)
+  pub rest : interpret logging (fill g target n (cpu b q)) (journaled m i) ≡ interpret logging (fill g target 16 (cpu b₀ q₀)) (journaled m₀ i₀)
 
-module _ (g : Regime) (target : ℕ) (m₀ : Memory) (i₀ : List ℕ) (o₀ : List (List ℕ)) (q₀ : Cache) (b₀ : Bank) where
-  pub filling-begun : Filling g target m₀ i₀ o₀ q₀ b₀ m₀ i₀ o₀ q₀ b₀ 0 16
+module _ (g : Regime) (target : ℕ) (m₀ : Memory) (i₀ : Journal) (q₀ : Cache) (b₀ : Bank) where
+  pub filling-begun : Filling g target m₀ i₀ q₀ b₀ m₀ i₀ q₀ b₀ 0 16
   filling-begun = record { low = omega arith; few = omega arith; long = refl; rest = refl }
 
-  module _ (m : Memory) (i : List ℕ) (o : List (List ℕ)) (q : Cache) (b : Bank) (x n : ℕ) (f : Filling g target m₀ i₀ o₀ q₀ b₀ m i o q b x n) where
+  module _ (m : Memory) (i : Journal) (q : Cache) (b : Bank) (x n : ℕ) (f : Filling g target m₀ i₀ q₀ b₀ m i q b x n) where
     abbrev whole : Gave Journaled (Out Cpu)
-    whole = interpret logging (fill g target 16 (cpu b₀ q₀)) (journaled m₀ i₀ o₀)
+    whole = interpret logging (fill g target 16 (cpu b₀ q₀)) (journaled m₀ i₀)
 
-    pub filling-end : n ≤ 0 → gave (ended (answerOf x) b q) (journaled m i o) ≡ whole
+    pub filling-end : n ≤ 0 → gave (ended (answerOf x) b q) (journaled m i) ≡ whole
     unfolding fill interpret
     filling-end h = let k : n ≡ 0 = omega arith in rw (answer-low x (f .low)) (rw k at (f .rest))
 
@@ -137,24 +137,24 @@ module _ (g : Regime) (target : ℕ) (m₀ : Memory) (i₀ : List ℕ) (o₀ : L
       down : n ≡ suc (n - 1)
       down = omega arith
 
-      pub filling-enough : y ≡ false → gave (ended (answerOf x) b q) (journaled m i o) ≡ whole
+      pub filling-enough : y ≡ false → gave (ended (answerOf x) b q) (journaled m i) ≡ whole
       unfolding fill interpret
       filling-enough z = rw (answer-low x (f .low)) (go (n - 1) down ∙ f .rest)
         where
-          go : (j : ℕ) → n ≡ suc j → gave (ok (cpu b q)) (journaled m i o) ≡ interpret logging (fill g target n (cpu b q)) (journaled m i o)
+          go : (j : ℕ) → n ≡ suc j → gave (ok (cpu b q)) (journaled m i) ≡ interpret logging (fill g target n (cpu b q)) (journaled m i)
           go j k = rw (k, sym ey ∙ z) refl
 
-      module _ (room : y ≡ true) (z : ℕ) (m₁ : Memory) (i₁ : List ℕ) (o₁ : List (List ℕ)) (q₁ : Cache) (b₁ : Bank)
-          (e : gave (ended (answerOf z) b₁ q₁) (journaled m₁ i₁ o₁) ≡ interpret logging (fillQuad (cpu b q) g (getD b 4 0)) (journaled m i o)) where
-        once : (j : ℕ) → n ≡ suc j → interpret logging (onward (λ d. fill g target j d) (ended (answerOf z) b₁ q₁)) (journaled m₁ i₁ o₁) ≡ interpret logging (fill g target n (cpu b q)) (journaled m i o)
+      module _ (room : y ≡ true) (z : ℕ) (m₁ : Memory) (i₁ : Journal) (q₁ : Cache) (b₁ : Bank)
+          (e : gave (ended (answerOf z) b₁ q₁) (journaled m₁ i₁) ≡ interpret logging (fillQuad (cpu b q) g (getD b 4 0)) (journaled m i)) where
+        once : (j : ℕ) → n ≡ suc j → interpret logging (onward (λ d. fill g target j d) (ended (answerOf z) b₁ q₁)) (journaled m₁ i₁) ≡ interpret logging (fill g target n (cpu b q)) (journaled m i)
         unfolding fill
-        once j k = rw (k, sym ey ∙ room, bind (fillQuad (cpu b q) g (getD b 4 0)) (λ d. fill g target j d) (journaled m i o), ← e) refl
+        once j k = rw (k, sym ey ∙ room, bind (fillQuad (cpu b q) g (getD b 4 0)) (λ d. fill g target j d) (journaled m i), ← e) refl
 
-        pub filling-more : z < 2 ^ 32 → length m₁ ≡ length m → Filling g target m₀ i₀ o₀ q₀ b₀ m₁ i₁ o₁ q₁ b₁ z (n - 1)
+        pub filling-more : z < 2 ^ 32 → length m₁ ≡ length m → Filling g target m₀ i₀ q₀ b₀ m₁ i₁ q₁ b₁ z (n - 1)
         unfolding onward
         filling-more h l =
             record { low = h; few = omega (arith, f .few); long = l ∙ f .long; rest = rw (answer-low z h) at (once (n - 1) down) ∙ f .rest }
 
-        pub filling-fault : 2 ^ 32 ≤ z → gave (ended (answerOf z) b₁ q₁) (journaled m₁ i₁ o₁) ≡ whole
+        pub filling-fault : 2 ^ 32 ≤ z → gave (ended (answerOf z) b₁ q₁) (journaled m₁ i₁) ≡ whole
         unfolding onward interpret
         filling-fault h = rw (answer-high z h) (rw (answer-high z h) at (once (n - 1) down) ∙ f .rest)

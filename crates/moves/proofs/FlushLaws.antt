@@ -3,7 +3,6 @@
 use Prim.Native.Nat.{ℕ, suc, _+_, _-_, _^_, _<_, _≤_}
 use mathlib.Core.Path.{_≡_, refl, sym, _∙_}
 use mathlib.Core.Bool.{Bool, true, false}
-use mathlib.Core.List.{List}
 use native.Mathlib.Omega.{arith}
 use lib.ListN.{getD, set, length}
 use Rattle.word.specs.declared.Width.the-variants.{Word}
@@ -13,7 +12,7 @@ use Rattle.memory.specs.Bytes.{Memory}
 use Rattle.memory.proofs.AnswerLaws.{answer-low, answer-high}
 use Rattle.program.specs.Access.{write, Gave, gave}
 use Rattle.program.specs.Program.{Program, interpret}
-use Rattle.program.specs.Journal.{Journaled, journaled, logging}
+use Rattle.program.specs.Journal.{Journal, Journaled, journaled, logging}
 use Rattle.machine.specs.Registers.{Bank, msp}
 use Rattle.machine.specs.Cache.{Cache, cacheWord}
 use Rattle.machine.specs.Status.{Cpu, cpu, with, isUser, isVirtual, regime}
@@ -101,21 +100,21 @@ regime-found b stb user translated es eu ev t = rw (es, eu, sym ev ∙ t) refl
 -- ---- the quad-words from MSP down
 
 -- where the loop stands: what is left of the flush gives what the whole gives
-pub record Flushing (q : Cache) (all : Bool) (target : ℕ) (m₀ : Memory) (i₀ : List ℕ) (o₀ : List (List ℕ)) (b₀ : Bank) (m : Memory) (i : List ℕ) (o : List (List ℕ)) (b : Bank) (x n : ℕ) : Type 0 where
+pub record Flushing (q : Cache) (all : Bool) (target : ℕ) (m₀ : Memory) (i₀ : Journal) (b₀ : Bank) (m : Memory) (i : Journal) (b : Bank) (x n : ℕ) : Type 0 where
   pub low : x < 2 ^ 32
   pub few : n ≤ 16
   pub long : length m ≡ length m₀
-  pub rest : interpret logging (flush all target n (cpu b q)) (journaled m i o) ≡ interpret logging (flush all target 16 (cpu b₀ q)) (journaled m₀ i₀ o₀)
+  pub rest : interpret logging (flush all target n (cpu b q)) (journaled m i) ≡ interpret logging (flush all target 16 (cpu b₀ q)) (journaled m₀ i₀)
 
-module _ (q : Cache) (all : Bool) (target : ℕ) (m₀ : Memory) (i₀ : List ℕ) (o₀ : List (List ℕ)) (b₀ : Bank) where
-  pub flushing-begun : Flushing q all target m₀ i₀ o₀ b₀ m₀ i₀ o₀ b₀ 0 16
+module _ (q : Cache) (all : Bool) (target : ℕ) (m₀ : Memory) (i₀ : Journal) (b₀ : Bank) where
+  pub flushing-begun : Flushing q all target m₀ i₀ b₀ m₀ i₀ b₀ 0 16
   flushing-begun = record { low = omega arith; few = omega arith; long = refl; rest = refl }
 
-  module _ (m : Memory) (i : List ℕ) (o : List (List ℕ)) (b : Bank) (x n : ℕ) (g : Flushing q all target m₀ i₀ o₀ b₀ m i o b x n) where
+  module _ (m : Memory) (i : Journal) (b : Bank) (x n : ℕ) (g : Flushing q all target m₀ i₀ b₀ m i b x n) where
     abbrev whole : Gave Journaled (Out Cpu)
-    whole = interpret logging (flush all target 16 (cpu b₀ q)) (journaled m₀ i₀ o₀)
+    whole = interpret logging (flush all target 16 (cpu b₀ q)) (journaled m₀ i₀)
 
-    pub flushing-end : n ≤ 0 → gave (ended (answerOf x) b q) (journaled m i o) ≡ whole
+    pub flushing-end : n ≤ 0 → gave (ended (answerOf x) b q) (journaled m i) ≡ whole
     unfolding flush interpret
     flushing-end h = let k : n ≡ 0 = omega arith in rw (answer-low x (g .low)) (rw k at (g .rest))
 
@@ -123,24 +122,24 @@ module _ (q : Cache) (all : Bool) (target : ℕ) (m₀ : Memory) (i₀ : List �
       down : n ≡ suc (n - 1)
       down = omega arith
 
-      pub flushing-enough : y ≡ false → gave (ended (answerOf x) b q) (journaled m i o) ≡ whole
+      pub flushing-enough : y ≡ false → gave (ended (answerOf x) b q) (journaled m i) ≡ whole
       unfolding flush interpret
       flushing-enough f = rw (answer-low x (g .low)) (go (n - 1) down ∙ g .rest)
         where
-          go : (j : ℕ) → n ≡ suc j → gave (ok (cpu b q)) (journaled m i o) ≡ interpret logging (flush all target n (cpu b q)) (journaled m i o)
+          go : (j : ℕ) → n ≡ suc j → gave (ok (cpu b q)) (journaled m i) ≡ interpret logging (flush all target n (cpu b q)) (journaled m i)
           go j k = rw (k, sym ey ∙ f) refl
 
-      module _ (held : y ≡ true) (a : ℕ) (ea : a ≡ minusOf (getD b 4 0) 16) (z : ℕ) (m₁ : Memory) (i₁ : List ℕ) (o₁ : List (List ℕ)) (b₁ : Bank)
-          (e : gave (ended (answerOf z) b₁ q) (journaled m₁ i₁ o₁) ≡ interpret logging (flushQuad (cpu b q) a) (journaled m i o)) where
-        once : (j : ℕ) → n ≡ suc j → interpret logging (onward (λ d. flush all target j d) (ended (answerOf z) b₁ q)) (journaled m₁ i₁ o₁) ≡ interpret logging (flush all target n (cpu b q)) (journaled m i o)
+      module _ (held : y ≡ true) (a : ℕ) (ea : a ≡ minusOf (getD b 4 0) 16) (z : ℕ) (m₁ : Memory) (i₁ : Journal) (b₁ : Bank)
+          (e : gave (ended (answerOf z) b₁ q) (journaled m₁ i₁) ≡ interpret logging (flushQuad (cpu b q) a) (journaled m i)) where
+        once : (j : ℕ) → n ≡ suc j → interpret logging (onward (λ d. flush all target j d) (ended (answerOf z) b₁ q)) (journaled m₁ i₁) ≡ interpret logging (flush all target n (cpu b q)) (journaled m i)
         unfolding flush
-        once j k = rw (k, sym ey ∙ held, ← ea, bind (flushQuad (cpu b q) a) (λ d. flush all target j d) (journaled m i o), ← e) refl
+        once j k = rw (k, sym ey ∙ held, ← ea, bind (flushQuad (cpu b q) a) (λ d. flush all target j d) (journaled m i), ← e) refl
 
-        pub flushing-more : z < 2 ^ 32 → length m₁ ≡ length m → Flushing q all target m₀ i₀ o₀ b₀ m₁ i₁ o₁ b₁ z (n - 1)
+        pub flushing-more : z < 2 ^ 32 → length m₁ ≡ length m → Flushing q all target m₀ i₀ b₀ m₁ i₁ b₁ z (n - 1)
         unfolding onward
         flushing-more h l =
             record { low = h; few = omega (arith, g .few); long = l ∙ g .long; rest = rw (answer-low z h) at (once (n - 1) down) ∙ g .rest }
 
-        pub flushing-fault : 2 ^ 32 ≤ z → gave (ended (answerOf z) b₁ q) (journaled m₁ i₁ o₁) ≡ whole
+        pub flushing-fault : 2 ^ 32 ≤ z → gave (ended (answerOf z) b₁ q) (journaled m₁ i₁) ≡ whole
         unfolding onward interpret
         flushing-fault h = rw (answer-high z h) (rw (answer-high z h) at (once (n - 1) down) ∙ g .rest)

@@ -9,14 +9,13 @@ use word::sums::minus;
 use word::sums::plus;
 ghost use mathlib.Core.Path.{_≡_};
 ghost use mathlib.Core.Bool.{true};
-ghost use mathlib.Core.List.{List};
 ghost use Prim.Native.Nat.{ℕ, _+_, _%_, _^_, _<_};
 ghost use Rattle.word.specs.declared.Width.the-variants as width;
 ghost use Rattle.memory.specs.Answers.{answerOf};
 ghost use Rattle.mmu.specs.declared.Kind.the-variants as kind;
 ghost use Rattle.program.specs.Access.{gave, read as reads};
 ghost use Rattle.program.specs.Program.{interpret};
-ghost use Rattle.program.specs.Journal.{journaled, logging};
+ghost use Rattle.program.specs.Journal.{Journal, journaled, logging};
 ghost use Rattle.machine.specs.Status.{cpu};
 ghost use Rattle.handler.specs.Followed.{regimeFor};
 ghost use Rattle.handler.specs.Quads.{Quad};
@@ -26,8 +25,7 @@ ghost use Rattle.access.specs.Moves.{fillQuad, mayFill, fill as fillOf};
 // The quad-word at a word by word, and MSP up past it; one whose read faults changes no word of the cache.
 fn fill_words(
     m: &mut [u8],
-    places: &mut [u32; 201],
-    words: &mut [[u8; 4]; 200],
+    journal: &mut [u64; 201],
     q: &mut [[u32; 4]; 16],
     r: &mut [u32; 17],
     stb: u32,
@@ -35,27 +33,27 @@ fn fill_words(
     translated: bool,
     a: u32,
 ) -> u64
-    ensures { λ x. ⌜ gave (ended (answerOf x) (now (r .exit)) (now (q .exit))) (journaled (now (m .exit)) (now (places .exit)) (now (words .exit))) ≡ interpret logging (fillQuad (cpu (now (r .entry)) (now (q .entry))) (regimeFor stb user translated) a) (journaled (now (m .entry)) (now (places .entry)) (now (words .entry))) ⌝ }
+    ensures { λ x. ⌜ gave (ended (answerOf x) (now (r .exit)) (now (q .exit))) (journaled (now (m .exit)) (now (journal .exit))) ≡ interpret logging (fillQuad (cpu (now (r .entry)) (now (q .entry))) (regimeFor stb user translated) a) (journaled (now (m .entry)) (now (journal .entry))) ⌝ }
 {
-    let x0 = read(m, places, words, Width::Word, stb, user, translated, a);
+    let x0 = read(m, journal, Width::Word, stb, user, translated, a);
     if 0x1_0000_0000 <= x0 {
         set_fault(r, x0, a);
         return x0;
     }
     let b = plus(a, 4);
-    let x1 = read(m, places, words, Width::Word, stb, user, translated, b);
+    let x1 = read(m, journal, Width::Word, stb, user, translated, b);
     if 0x1_0000_0000 <= x1 {
         set_fault(r, x1, b);
         return x1;
     }
     let c = plus(a, 8);
-    let x2 = read(m, places, words, Width::Word, stb, user, translated, c);
+    let x2 = read(m, journal, Width::Word, stb, user, translated, c);
     if 0x1_0000_0000 <= x2 {
         set_fault(r, x2, c);
         return x2;
     }
     let d = plus(a, 12);
-    let x3 = read(m, places, words, Width::Word, stb, user, translated, d);
+    let x3 = read(m, journal, Width::Word, stb, user, translated, d);
     if 0x1_0000_0000 <= x3 {
         set_fault(r, x3, d);
         return x3;
@@ -70,7 +68,7 @@ fn fill_words(
 // alone.)
 fn read_beside(m: &[u8], stb: u32, user: bool, a: u32, pa: u32, i: u32) -> u64
     requires { ⌜ Quad user stb kind.Read a (now m) pa × (i < 16) × (i % 4 ≡ 0) ⌝ }
-    ensures { λ x. ⌜ ((o : List ℕ) (w : List (List ℕ)) → gave (answerOf x) (journaled (now (m .entry)) o w) ≡ logging (reads (regimeFor stb user true) width.Word (a + i)) (journaled (now (m .entry)) o w)) × (x < 2 ^ 32) ⌝ }
+    ensures { λ x. ⌜ ((j : Journal) → gave (answerOf x) (journaled (now (m .entry)) j) ≡ logging (reads (regimeFor stb user true) width.Word (a + i)) (journaled (now (m .entry)) j)) × (x < 2 ^ 32) ⌝ }
 {
     load_word(m, pa + i)
 }
@@ -86,7 +84,7 @@ fn fill_found(
     pa: u32,
 ) -> u64
     requires { ⌜ Quad user stb kind.Read a (now m) pa ⌝ }
-    ensures { λ x. ⌜ ((o : List ℕ) (w : List (List ℕ)) → gave (ended (answerOf x) (now (r .exit)) (now (q .exit))) (journaled (now (m .entry)) o w) ≡ interpret logging (fillQuad (cpu (now (r .entry)) (now (q .entry))) (regimeFor stb user true) a) (journaled (now (m .entry)) o w)) ⌝ }
+    ensures { λ x. ⌜ ((j : Journal) → gave (ended (answerOf x) (now (r .exit)) (now (q .exit))) (journaled (now (m .entry)) j) ≡ interpret logging (fillQuad (cpu (now (r .entry)) (now (q .entry))) (regimeFor stb user true) a) (journaled (now (m .entry)) j)) ⌝ }
 {
     let x0 = read_beside(m, stb, user, a, pa, 0);
     let x1 = read_beside(m, stb, user, a, pa, 4);
@@ -101,8 +99,7 @@ fn fill_found(
 // The quad-word at a, by one walk where that does for its four words.
 fn fill_quad(
     m: &mut [u8],
-    places: &mut [u32; 201],
-    words: &mut [[u8; 4]; 200],
+    journal: &mut [u64; 201],
     q: &mut [[u32; 4]; 16],
     r: &mut [u32; 17],
     stb: u32,
@@ -110,7 +107,7 @@ fn fill_quad(
     translated: bool,
     a: u32,
 ) -> u64
-    ensures { λ x. ⌜ gave (ended (answerOf x) (now (r .exit)) (now (q .exit))) (journaled (now (m .exit)) (now (places .exit)) (now (words .exit))) ≡ interpret logging (fillQuad (cpu (now (r .entry)) (now (q .entry))) (regimeFor stb user translated) a) (journaled (now (m .entry)) (now (places .entry)) (now (words .entry))) ⌝ }
+    ensures { λ x. ⌜ gave (ended (answerOf x) (now (r .exit)) (now (q .exit))) (journaled (now (m .exit)) (now (journal .exit))) ≡ interpret logging (fillQuad (cpu (now (r .entry)) (now (q .entry))) (regimeFor stb user translated) a) (journaled (now (m .entry)) (now (journal .entry))) ⌝ }
 {
     if translated {
         let x = fill_place(m, stb, user, a);
@@ -118,7 +115,7 @@ fn fill_quad(
             return fill_found(m, q, r, stb, user, a, low32(x));
         }
     }
-    fill_words(m, places, words, q, r, stb, user, translated, a)
+    fill_words(m, journal, q, r, stb, user, translated, a)
 }
 
 // Whether MSP is below the target and the cache is not full.
@@ -131,8 +128,7 @@ fn may_fill(r: &[u32; 17], target: u32) -> bool
 // At most the sixteen quad-words of the cache, left at the first fault with the last MSP reached.
 pub fn fill(
     m: &mut [u8],
-    places: &mut [u32; 201],
-    words: &mut [[u8; 4]; 200],
+    journal: &mut [u64; 201],
     q: &mut [[u32; 4]; 16],
     r: &mut [u32; 17],
     stb: u32,
@@ -140,14 +136,14 @@ pub fn fill(
     translated: bool,
     target: u32,
 ) -> u64
-    ensures { λ x. ⌜ gave (ended (answerOf x) (now (r .exit)) (now (q .exit))) (journaled (now (m .exit)) (now (places .exit)) (now (words .exit))) ≡ interpret logging (fillOf (regimeFor stb user translated) target 16 (cpu (now (r .entry)) (now (q .entry)))) (journaled (now (m .entry)) (now (places .entry)) (now (words .entry))) ⌝ }
+    ensures { λ x. ⌜ gave (ended (answerOf x) (now (r .exit)) (now (q .exit))) (journaled (now (m .exit)) (now (journal .exit))) ≡ interpret logging (fillOf (regimeFor stb user translated) target 16 (cpu (now (r .entry)) (now (q .entry)))) (journaled (now (m .entry)) (now (journal .entry))) ⌝ }
 {
     let mut x: u64 = 0;
     let mut n: u32 = 16;
     while 0 < n {
         if may_fill(r, target) {
             let a = r[4];
-            x = fill_quad(m, places, words, q, r, stb, user, translated, a);
+            x = fill_quad(m, journal, q, r, stb, user, translated, a);
             if 0x1_0000_0000 <= x {
                 break;
             }

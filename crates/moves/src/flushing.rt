@@ -29,19 +29,17 @@ ghost use Rattle.access.specs.Moves.{flushWord, flushQuad, mayFlush, flush as f
 
 fn flush_word(
     m: &mut [u8],
-    places: &mut [u32; 201],
-    words: &mut [[u8; 4]; 200],
+    journal: &mut [u64; 201],
     q: &[[u32; 4]; 16],
     r: &[u32; 17],
     a: u32,
 ) -> u64
-    ensures { λ x. ⌜ gave (replied (cpu (now (r .entry)) (now (q .entry))) a (answerOf x)) (journaled (now (m .exit)) (now (places .exit)) (now (words .exit))) ≡ interpret logging (flushWord (cpu (now (r .entry)) (now (q .entry))) a) (journaled (now (m .entry)) (now (places .entry)) (now (words .entry))) ⌝ }
+    ensures { λ x. ⌜ gave (replied (cpu (now (r .entry)) (now (q .entry))) a (answerOf x)) (journaled (now (m .exit)) (now (journal .exit))) ≡ interpret logging (flushWord (cpu (now (r .entry)) (now (q .entry))) a) (journaled (now (m .entry)) (now (journal .entry))) ⌝ }
 {
     let v = cache_word(q, a);
     handler::accesses::write(
         m,
-        places,
-        words,
+        journal,
         Width::Word,
         r[9],
         is_user(r),
@@ -54,33 +52,32 @@ fn flush_word(
 // The quad-word at a word by word, and MSP down to it; words stored before a fault stay.
 fn flush_words(
     m: &mut [u8],
-    places: &mut [u32; 201],
-    words: &mut [[u8; 4]; 200],
+    journal: &mut [u64; 201],
     q: &[[u32; 4]; 16],
     r: &mut [u32; 17],
     a: u32,
 ) -> u64
-    ensures { λ x. ⌜ gave (ended (answerOf x) (now (r .exit)) (now (q .entry))) (journaled (now (m .exit)) (now (places .exit)) (now (words .exit))) ≡ interpret logging (flushQuad (cpu (now (r .entry)) (now (q .entry))) a) (journaled (now (m .entry)) (now (places .entry)) (now (words .entry))) ⌝ }
+    ensures { λ x. ⌜ gave (ended (answerOf x) (now (r .exit)) (now (q .entry))) (journaled (now (m .exit)) (now (journal .exit))) ≡ interpret logging (flushQuad (cpu (now (r .entry)) (now (q .entry))) a) (journaled (now (m .entry)) (now (journal .entry))) ⌝ }
 {
-    let x0 = flush_word(m, places, words, q, r, a);
+    let x0 = flush_word(m, journal, q, r, a);
     if 0x1_0000_0000 <= x0 {
         set_fault(r, x0, a);
         return x0;
     }
     let b = plus(a, 4);
-    let x1 = flush_word(m, places, words, q, r, b);
+    let x1 = flush_word(m, journal, q, r, b);
     if 0x1_0000_0000 <= x1 {
         set_fault(r, x1, b);
         return x1;
     }
     let c = plus(a, 8);
-    let x2 = flush_word(m, places, words, q, r, c);
+    let x2 = flush_word(m, journal, q, r, c);
     if 0x1_0000_0000 <= x2 {
         set_fault(r, x2, c);
         return x2;
     }
     let d = plus(a, 12);
-    let x3 = flush_word(m, places, words, q, r, d);
+    let x3 = flush_word(m, journal, q, r, d);
     if 0x1_0000_0000 <= x3 {
         set_fault(r, x3, d);
         return x3;
@@ -92,8 +89,7 @@ fn flush_words(
 // The word v stored i bytes on in the quad-word at a that `flush_place` found at pa, which keeps its place.
 fn write_beside(
     m: &mut [u8],
-    places: &mut [u32; 201],
-    words: &mut [[u8; 4]; 200],
+    journal: &mut [u64; 201],
     stb: u32,
     user: bool,
     a: u32,
@@ -102,16 +98,15 @@ fn write_beside(
     v: u32,
 ) -> u64
     requires { ⌜ Quad user stb kind.Write a (now m) pa × (i < 16) × (i % 4 ≡ 0) ⌝ }
-    ensures { λ x. ⌜ (gave (answerOf x) (journaled (now (m .exit)) (now (places .exit)) (now (words .exit))) ≡ logging (writes (regimeFor stb user true) width.Word (a + i) v) (journaled (now (m .entry)) (now (places .entry)) (now (words .entry)))) × Quad user stb kind.Write a (now (m .exit)) pa × (x < 2 ^ 32) ⌝ }
+    ensures { λ x. ⌜ (gave (answerOf x) (journaled (now (m .exit)) (now (journal .exit))) ≡ logging (writes (regimeFor stb user true) width.Word (a + i) v) (journaled (now (m .entry)) (now (journal .entry)))) × Quad user stb kind.Write a (now (m .exit)) pa × (x < 2 ^ 32) ⌝ }
 {
-    store_noted(m, places, words, Width::Word, pa + i, v)
+    store_noted(m, journal, Width::Word, pa + i, v)
 }
 
 // The words of the quad-word at a, found at pa.
 fn flush_found(
     m: &mut [u8],
-    places: &mut [u32; 201],
-    words: &mut [[u8; 4]; 200],
+    journal: &mut [u64; 201],
     q: &[[u32; 4]; 16],
     stb: u32,
     user: bool,
@@ -119,28 +114,27 @@ fn flush_found(
     pa: u32,
 ) -> u64
     requires { ⌜ Quad user stb kind.Write a (now m) pa ⌝ }
-    ensures { λ x. ⌜ ((b : Bank) → regime b ≡ regimeFor stb user true → gave (ended (answerOf x) (set b 4 a) (now (q .entry))) (journaled (now (m .exit)) (now (places .exit)) (now (words .exit))) ≡ interpret logging (flushQuad (cpu b (now (q .entry))) a) (journaled (now (m .entry)) (now (places .entry)) (now (words .entry)))) ⌝ }
+    ensures { λ x. ⌜ ((b : Bank) → regime b ≡ regimeFor stb user true → gave (ended (answerOf x) (set b 4 a) (now (q .entry))) (journaled (now (m .exit)) (now (journal .exit))) ≡ interpret logging (flushQuad (cpu b (now (q .entry))) a) (journaled (now (m .entry)) (now (journal .entry)))) ⌝ }
 {
     let v0 = cache_word(q, a);
-    let x0 = write_beside(m, places, words, stb, user, a, pa, 0, v0);
+    let x0 = write_beside(m, journal, stb, user, a, pa, 0, v0);
     let v1 = cache_word(q, plus(a, 4));
-    let x1 = write_beside(m, places, words, stb, user, a, pa, 4, v1);
+    let x1 = write_beside(m, journal, stb, user, a, pa, 4, v1);
     let v2 = cache_word(q, plus(a, 8));
-    let x2 = write_beside(m, places, words, stb, user, a, pa, 8, v2);
+    let x2 = write_beside(m, journal, stb, user, a, pa, 8, v2);
     let v3 = cache_word(q, plus(a, 12));
-    write_beside(m, places, words, stb, user, a, pa, 12, v3)
+    write_beside(m, journal, stb, user, a, pa, 12, v3)
 }
 
 // The quad-word at a, by one walk where that does for its four words.
 fn flush_quad(
     m: &mut [u8],
-    places: &mut [u32; 201],
-    words: &mut [[u8; 4]; 200],
+    journal: &mut [u64; 201],
     q: &[[u32; 4]; 16],
     r: &mut [u32; 17],
     a: u32,
 ) -> u64
-    ensures { λ x. ⌜ gave (ended (answerOf x) (now (r .exit)) (now (q .entry))) (journaled (now (m .exit)) (now (places .exit)) (now (words .exit))) ≡ interpret logging (flushQuad (cpu (now (r .entry)) (now (q .entry))) a) (journaled (now (m .entry)) (now (places .entry)) (now (words .entry))) ⌝ }
+    ensures { λ x. ⌜ gave (ended (answerOf x) (now (r .exit)) (now (q .entry))) (journaled (now (m .exit)) (now (journal .exit))) ≡ interpret logging (flushQuad (cpu (now (r .entry)) (now (q .entry))) a) (journaled (now (m .entry)) (now (journal .entry))) ⌝ }
 {
     let translated = is_virtual(r);
     let stb = r[9];
@@ -148,12 +142,12 @@ fn flush_quad(
     if translated {
         let x = flush_place(m, stb, user, a);
         if x < 0x1_0000_0000 {
-            let y = flush_found(m, places, words, q, stb, user, a, low32(x));
+            let y = flush_found(m, journal, q, stb, user, a, low32(x));
             r[4] = a;
             return y;
         }
     }
-    flush_words(m, places, words, q, r, a)
+    flush_words(m, journal, q, r, a)
 }
 
 // Whether words are held, and all are to go or too many would be held above the target.
@@ -166,21 +160,20 @@ fn may_flush(r: &[u32; 17], all: bool, target: u32) -> bool
 // At most the sixteen quad-words of the cache, left at the first fault with the last MSP reached.
 pub fn flush(
     m: &mut [u8],
-    places: &mut [u32; 201],
-    words: &mut [[u8; 4]; 200],
+    journal: &mut [u64; 201],
     q: &[[u32; 4]; 16],
     r: &mut [u32; 17],
     all: bool,
     target: u32,
 ) -> u64
-    ensures { λ x. ⌜ gave (ended (answerOf x) (now (r .exit)) (now (q .entry))) (journaled (now (m .exit)) (now (places .exit)) (now (words .exit))) ≡ interpret logging (flushOf all target 16 (cpu (now (r .entry)) (now (q .entry)))) (journaled (now (m .entry)) (now (places .entry)) (now (words .entry))) ⌝ }
+    ensures { λ x. ⌜ gave (ended (answerOf x) (now (r .exit)) (now (q .entry))) (journaled (now (m .exit)) (now (journal .exit))) ≡ interpret logging (flushOf all target 16 (cpu (now (r .entry)) (now (q .entry)))) (journaled (now (m .entry)) (now (journal .entry))) ⌝ }
 {
     let mut x: u64 = 0;
     let mut n: u32 = 16;
     while 0 < n {
         if may_flush(r, all, target) {
             let a = minus(r[4], 16);
-            x = flush_quad(m, places, words, q, r, a);
+            x = flush_quad(m, journal, q, r, a);
             if 0x1_0000_0000 <= x {
                 break;
             }

@@ -13,14 +13,13 @@ ghost use Rattle.exec.specs.Operands.{writeAccumulator};
 
 pub fn write_accumulator(
     m: &mut [u8],
-    places: &mut [u32; 201],
-    words: &mut [[u8; 4]; 200],
+    journal: &mut [u64; 201],
     q: &mut [[u32; 4]; 16],
     r: &mut [u32; 17],
     v: u32,
 ) -> u64
-    ensures { λ x. ⌜ gave (ended (answerOf x) (now (r .exit)) (now (q .exit))) (journaled (now (m .exit)) (now (places .exit)) (now (words .exit))) ≡ interpret logging (writeAccumulator (cpu (now (r .entry)) (now (q .entry))) v) (journaled (now (m .entry)) (now (places .entry)) (now (words .entry))) ⌝ }
+    ensures { λ x. ⌜ gave (ended (answerOf x) (now (r .exit)) (now (q .exit))) (journaled (now (m .exit)) (now (journal .exit))) ≡ interpret logging (writeAccumulator (cpu (now (r .entry)) (now (q .entry))) v) (journaled (now (m .entry)) (now (journal .entry))) ⌝ }
 {
     let a = stack_address(r, 4);
-    store(m, places, words, q, r, Width::Word, a, v)
+    store(m, journal, q, r, Width::Word, a, v)
 }

@@ -44,15 +44,14 @@ pub fn is_constant(mode: Mode) -> bool
 // An operand that is no register: the word at its stack offset comes before an indirect one.
 fn locate_general(
     m: &mut [u8],
-    places: &mut [u32; 201],
-    words: &mut [[u8; 4]; 200],
+    journal: &mut [u64; 201],
     q: &[[u32; 4]; 16],
     r: &mut [u32; 17],
     wide: Wide,
     mode: Mode,
     v: u32,
 ) -> u64
-    ensures { λ x. ⌜ (gave (placed (operand.General mode v) (answerOf x) (now (r .exit)) (now (q .entry))) (journaled (now (m .exit)) (now (places .exit)) (now (words .exit))) ≡ interpret logging (located (cpu (now (r .entry)) (now (q .entry))) wide (kindOf mode) mode v) (journaled (now (m .entry)) (now (places .entry)) (now (words .entry)))) × (x < 2 ^ 32 → now (r .exit) ≡ now (r .entry)) ⌝ }
+    ensures { λ x. ⌜ (gave (placed (operand.General mode v) (answerOf x) (now (r .exit)) (now (q .entry))) (journaled (now (m .exit)) (now (journal .exit))) ≡ interpret logging (located (cpu (now (r .entry)) (now (q .entry))) wide (kindOf mode) mode v) (journaled (now (m .entry)) (now (journal .entry)))) × (x < 2 ^ 32 → now (r .exit) ≡ now (r .entry)) ⌝ }
 {
     let k = kind_of(mode);
     match k {
@@ -60,7 +59,7 @@ fn locate_general(
         OperandKind::Offset => good(stack_address(r, v)),
         OperandKind::Indirect => {
             let a = stack_address(r, v);
-            load(m, places, words, q, r, Width::Word, a)
+            load(m, journal, q, r, Width::Word, a)
         }
         OperandKind::Constant => good(0),
     }
@@ -69,17 +68,16 @@ fn locate_general(
 // The address of an operand.
 pub fn locate_at(
     m: &mut [u8],
-    places: &mut [u32; 201],
-    words: &mut [[u8; 4]; 200],
+    journal: &mut [u64; 201],
     q: &[[u32; 4]; 16],
     r: &mut [u32; 17],
     wide: Wide,
     o: Operand,
 ) -> u64
-    ensures { λ x. ⌜ (gave (placed o (answerOf x) (now (r .exit)) (now (q .entry))) (journaled (now (m .exit)) (now (places .exit)) (now (words .exit))) ≡ interpret logging (locate (cpu (now (r .entry)) (now (q .entry))) wide o) (journaled (now (m .entry)) (now (places .entry)) (now (words .entry)))) × (x < 2 ^ 32 → now (r .exit) ≡ now (r .entry)) ⌝ }
+    ensures { λ x. ⌜ (gave (placed o (answerOf x) (now (r .exit)) (now (q .entry))) (journaled (now (m .exit)) (now (journal .exit))) ≡ interpret logging (locate (cpu (now (r .entry)) (now (q .entry))) wide o) (journaled (now (m .entry)) (now (journal .entry)))) × (x < 2 ^ 32 → now (r .exit) ≡ now (r .entry)) ⌝ }
 {
     match o {
-        Operand::General(mode, v) => locate_general(m, places, words, q, r, wide, mode, v),
+        Operand::General(mode, v) => locate_general(m, journal, q, r, wide, mode, v),
         Operand::Register(_) => good(0),
     }
 }
@@ -87,16 +85,15 @@ pub fn locate_at(
 // The operand of a mode in memory, at 32 bits.
 fn read_expanded(
     m: &mut [u8],
-    places: &mut [u32; 201],
-    words: &mut [[u8; 4]; 200],
+    journal: &mut [u64; 201],
     q: &[[u32; 4]; 16],
     r: &mut [u32; 17],
     mode: Mode,
     a: u32,
 ) -> u64
-    ensures { λ x. ⌜ (gave (valued (answerOf x) (now (r .exit)) (now (q .entry))) (journaled (now (m .exit)) (now (places .exit)) (now (words .exit))) ≡ interpret logging (readPlace (cpu (now (r .entry)) (now (q .entry))) (inMemory mode a)) (journaled (now (m .entry)) (now (places .entry)) (now (words .entry)))) × (x < 2 ^ 32 → now (r .exit) ≡ now (r .entry)) ⌝ }
+    ensures { λ x. ⌜ (gave (valued (answerOf x) (now (r .exit)) (now (q .entry))) (journaled (now (m .exit)) (now (journal .exit))) ≡ interpret logging (readPlace (cpu (now (r .entry)) (now (q .entry))) (inMemory mode a)) (journaled (now (m .entry)) (now (journal .entry)))) × (x < 2 ^ 32 → now (r .exit) ≡ now (r .entry)) ⌝ }
 {
-    let x = load(m, places, words, q, r, width_of(mode), a);
+    let x = load(m, journal, q, r, width_of(mode), a);
     if 0x1_0000_0000 <= x {
         x
     } else {
@@ -107,37 +104,35 @@ fn read_expanded(
 // An operand that is no register, found at a.
 fn read_general(
     m: &mut [u8],
-    places: &mut [u32; 201],
-    words: &mut [[u8; 4]; 200],
+    journal: &mut [u64; 201],
     q: &[[u32; 4]; 16],
     r: &mut [u32; 17],
     mode: Mode,
     v: u32,
     a: u32,
 ) -> u64
-    ensures { λ x. ⌜ (gave (valued (answerOf x) (now (r .exit)) (now (q .entry))) (journaled (now (m .exit)) (now (places .exit)) (now (words .exit))) ≡ interpret logging (readPlace (cpu (now (r .entry)) (now (q .entry))) (generalAt (kindOf mode) mode v a)) (journaled (now (m .entry)) (now (places .entry)) (now (words .entry)))) × (x < 2 ^ 32 → now (r .exit) ≡ now (r .entry)) ⌝ }
+    ensures { λ x. ⌜ (gave (valued (answerOf x) (now (r .exit)) (now (q .entry))) (journaled (now (m .exit)) (now (journal .exit))) ≡ interpret logging (readPlace (cpu (now (r .entry)) (now (q .entry))) (generalAt (kindOf mode) mode v a)) (journaled (now (m .entry)) (now (journal .entry)))) × (x < 2 ^ 32 → now (r .exit) ≡ now (r .entry)) ⌝ }
 {
     if is_constant(mode) {
         good(v)
     } else {
-        read_expanded(m, places, words, q, r, mode, a)
+        read_expanded(m, journal, q, r, mode, a)
     }
 }
 
 // An operand found at a.
 pub fn read_at(
     m: &mut [u8],
-    places: &mut [u32; 201],
-    words: &mut [[u8; 4]; 200],
+    journal: &mut [u64; 201],
     q: &[[u32; 4]; 16],
     r: &mut [u32; 17],
     o: Operand,
     a: u32,
 ) -> u64
-    ensures { λ x. ⌜ (gave (valued (answerOf x) (now (r .exit)) (now (q .entry))) (journaled (now (m .exit)) (now (places .exit)) (now (words .exit))) ≡ interpret logging (readPlace (cpu (now (r .entry)) (now (q .entry))) (placeAt o a)) (journaled (now (m .entry)) (now (places .entry)) (now (words .entry)))) × (x < 2 ^ 32 → now (r .exit) ≡ now (r .entry)) ⌝ }
+    ensures { λ x. ⌜ (gave (valued (answerOf x) (now (r .exit)) (now (q .entry))) (journaled (now (m .exit)) (now (journal .exit))) ≡ interpret logging (readPlace (cpu (now (r .entry)) (now (q .entry))) (placeAt o a)) (journaled (now (m .entry)) (now (journal .entry)))) × (x < 2 ^ 32 → now (r .exit) ≡ now (r .entry)) ⌝ }
 {
     match o {
-        Operand::General(mode, v) => read_general(m, places, words, q, r, mode, v, a),
+        Operand::General(mode, v) => read_general(m, journal, q, r, mode, v, a),
         Operand::Register(n) => good(word_at(r, register_of(n))),
     }
 }
@@ -145,28 +140,26 @@ pub fn read_at(
 // An operand found and read.
 pub fn read_operand(
     m: &mut [u8],
-    places: &mut [u32; 201],
-    words: &mut [[u8; 4]; 200],
+    journal: &mut [u64; 201],
     q: &[[u32; 4]; 16],
     r: &mut [u32; 17],
     wide: Wide,
     o: Operand,
 ) -> u64
-    ensures { λ x. ⌜ (gave (valued (answerOf x) (now (r .exit)) (now (q .entry))) (journaled (now (m .exit)) (now (places .exit)) (now (words .exit))) ≡ interpret logging (readOperand (cpu (now (r .entry)) (now (q .entry))) wide o) (journaled (now (m .entry)) (now (places .entry)) (now (words .entry)))) × (x < 2 ^ 32 → now (r .exit) ≡ now (r .entry)) ⌝ }
+    ensures { λ x. ⌜ (gave (valued (answerOf x) (now (r .exit)) (now (q .entry))) (journaled (now (m .exit)) (now (journal .exit))) ≡ interpret logging (readOperand (cpu (now (r .entry)) (now (q .entry))) wide o) (journaled (now (m .entry)) (now (journal .entry)))) × (x < 2 ^ 32 → now (r .exit) ≡ now (r .entry)) ⌝ }
 {
-    let a = locate_at(m, places, words, q, r, wide, o);
+    let a = locate_at(m, journal, q, r, wide, o);
     if 0x1_0000_0000 <= a {
         a
     } else {
-        read_at(m, places, words, q, r, o, low32(a))
+        read_at(m, journal, q, r, o, low32(a))
     }
 }
 
 // To an operand that is no register, found at a.
 fn write_general(
     m: &mut [u8],
-    places: &mut [u32; 201],
-    words: &mut [[u8; 4]; 200],
+    journal: &mut [u64; 201],
     q: &mut [[u32; 4]; 16],
     r: &mut [u32; 17],
     mode: Mode,
@@ -174,30 +167,29 @@ fn write_general(
     a: u32,
     v: u32,
 ) -> u64
-    ensures { λ x. ⌜ gave (ended (answerOf x) (now (r .exit)) (now (q .exit))) (journaled (now (m .exit)) (now (places .exit)) (now (words .exit))) ≡ interpret logging (writePlace (cpu (now (r .entry)) (now (q .entry))) (generalAt (kindOf mode) mode held a) v) (journaled (now (m .entry)) (now (places .entry)) (now (words .entry))) ⌝ }
+    ensures { λ x. ⌜ gave (ended (answerOf x) (now (r .exit)) (now (q .exit))) (journaled (now (m .exit)) (now (journal .exit))) ≡ interpret logging (writePlace (cpu (now (r .entry)) (now (q .entry))) (generalAt (kindOf mode) mode held a) v) (journaled (now (m .entry)) (now (journal .entry))) ⌝ }
 {
     if is_constant(mode) {
         good(0)
     } else {
-        store(m, places, words, q, r, width_of(mode), a, v)
+        store(m, journal, q, r, width_of(mode), a, v)
     }
 }
 
 // To an operand found at a.
 pub fn write_at(
     m: &mut [u8],
-    places: &mut [u32; 201],
-    words: &mut [[u8; 4]; 200],
+    journal: &mut [u64; 201],
     q: &mut [[u32; 4]; 16],
     r: &mut [u32; 17],
     o: Operand,
     a: u32,
     v: u32,
 ) -> u64
-    ensures { λ x. ⌜ gave (ended (answerOf x) (now (r .exit)) (now (q .exit))) (journaled (now (m .exit)) (now (places .exit)) (now (words .exit))) ≡ interpret logging (writePlace (cpu (now (r .entry)) (now (q .entry))) (placeAt o a) v) (journaled (now (m .entry)) (now (places .entry)) (now (words .entry))) ⌝ }
+    ensures { λ x. ⌜ gave (ended (answerOf x) (now (r .exit)) (now (q .exit))) (journaled (now (m .exit)) (now (journal .exit))) ≡ interpret logging (writePlace (cpu (now (r .entry)) (now (q .entry))) (placeAt o a) v) (journaled (now (m .entry)) (now (journal .entry))) ⌝ }
 {
     match o {
-        Operand::General(mode, x) => write_general(m, places, words, q, r, mode, x, a, v),
+        Operand::General(mode, x) => write_general(m, journal, q, r, mode, x, a, v),
         Operand::Register(n) => {
             write_register(r, register_of(n), v);
             good(0)

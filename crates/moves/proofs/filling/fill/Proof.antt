@@ -6,13 +6,13 @@ use Rattle.moves.proofs.filling.fill.Statement.{statement}
 use Rattle.moves.proofs.filling.fill.Tie as tie
 
 abbrev Inv-loop : tie.InvT-loop
-Inv-loop m₀ places₀ words₀ q₀ r₀ stb user translated target x₀ n₀ m places words q r x n = Filling (regimeFor stb user translated) target m₀ places₀ words₀ q₀ r₀ m places words q r x n
+Inv-loop m₀ journal₀ q₀ r₀ stb user translated target x₀ n₀ m journal q r x n = Filling (regimeFor stb user translated) target m₀ journal₀ q₀ r₀ m journal q r x n
 
 abbrev μ-loop : tie.MeasureT-loop
-μ-loop m₀ places₀ words₀ q₀ r₀ stb user translated target x₀ n₀ m places words q r x n = n
+μ-loop m₀ journal₀ q₀ r₀ stb user translated target x₀ n₀ m journal q r x n = n
 
 loop-holds : tie.Need-loop-holds Inv-loop μ-loop
-loop-holds c = filling-begun _ _ _ _ _ _ _
+loop-holds c = filling-begun _ _ _ _ _ _
 
 may-fill-requires : tie.Need-may-fill-requires Inv-loop μ-loop
 may-fill-requires c κs = search needs
@@ -30,25 +30,25 @@ loop-less : tie.Need-loop-less Inv-loop μ-loop
 loop-less c = search needs
 
 loop-again : tie.Need-loop-again Inv-loop μ-loop
-loop-again c = filling-more (regimeFor (c .before .before .before .before .before .before .before .before .before .before .before .before .before .before .before .before .args .stb) (c .before .before .before .before .before .before .before .before .before .before .before .before .before .before .before .before .args .user) (c .before .before .before .before .before .before .before .before .before .before .before .before .before .before .before .before .args .translated)) (c .before .before .before .before .before .before .before .before .before .before .before .before .before .before .before .before .args .target) (c .before .before .before .before .before .before .before .before .before .before .before .before .before .before .before .before .args .m .now) (c .before .before .before .before .before .before .before .before .before .before .before .before .before .before .before .before .args .places .now) (c .before .before .before .before .before .before .before .before .before .before .before .before .before .before .before .before .args .words .now) (c .before .before .before .before .before .before .before .before .before .before .before .before .before .before .before .before .args .q .now) (c .before .before .before .before .before .before .before .before .before .before .before .before .before .before .before .before .args .r .now) _ _ _ _ _ _ _ (c .before .before .before .before .before .before .before .before .before .before .before .before .before .before .loop .inv) (c .before .before .before .before .before .before .before .before .before .before .before .before .before .loop-test .taken) _ (c .before .before .before .before .before .before .before .before .before .before .before .may-fill .ensures) (c .before .before .before .before .before .before .before .before .before .before .if1 .taken) _ _ _ _ _ _ (c .before .before .before .fill-quad .ensures) (c .if2 .left) (c .before .before .before .fill-quad .kept .0)
+loop-again c = filling-more (regimeFor (c .before .before .before .before .before .before .before .before .before .before .before .before .before .before .before .args .stb) (c .before .before .before .before .before .before .before .before .before .before .before .before .before .before .before .args .user) (c .before .before .before .before .before .before .before .before .before .before .before .before .before .before .before .args .translated)) (c .before .before .before .before .before .before .before .before .before .before .before .before .before .before .before .args .target) (c .before .before .before .before .before .before .before .before .before .before .before .before .before .before .before .args .m .now) (c .before .before .before .before .before .before .before .before .before .before .before .before .before .before .before .args .journal .now) (c .before .before .before .before .before .before .before .before .before .before .before .before .before .before .before .args .q .now) (c .before .before .before .before .before .before .before .before .before .before .before .before .before .before .before .args .r .now) _ _ _ _ _ _ (c .before .before .before .before .before .before .before .before .before .before .before .before .before .loop .inv) (c .before .before .before .before .before .before .before .before .before .before .before .before .loop-test .taken) _ (c .before .before .before .before .before .before .before .before .before .before .may-fill .ensures) (c .before .before .before .before .before .before .before .before .before .if1 .taken) _ _ _ _ _ (c .before .before .before .fill-quad .ensures) (c .if2 .left) (c .before .before .before .fill-quad .kept .0)
 
 same-length : tie.Need-same-length Inv-loop μ-loop
 same-length c = c .before .loop .inv .long
 
 returns : tie.Need-returns Inv-loop μ-loop
-returns c = filling-end (regimeFor (c .before .before .before .args .stb) (c .before .before .before .args .user) (c .before .before .before .args .translated)) (c .before .before .before .args .target) (c .before .before .before .args .m .now) (c .before .before .before .args .places .now) (c .before .before .before .args .words .now) (c .before .before .before .args .q .now) (c .before .before .before .args .r .now) _ _ _ _ _ _ _ (c .before .loop .inv) (c .loop-test .left)
+returns c = filling-end (regimeFor (c .before .before .before .args .stb) (c .before .before .before .args .user) (c .before .before .before .args .translated)) (c .before .before .before .args .target) (c .before .before .before .args .m .now) (c .before .before .before .args .journal .now) (c .before .before .before .args .q .now) (c .before .before .before .args .r .now) _ _ _ _ _ _ (c .before .loop .inv) (c .loop-test .left)
 
 same-length-2 : tie.Need-same-length-2 Inv-loop μ-loop
-same-length-2 c = (c .before .before .before .fill-quad .kept .0) ∙ c .before .before .before .before .before .before .before .before .before .before .before .before .before .before .loop .inv .long
+same-length-2 c = (c .before .before .before .fill-quad .kept .0) ∙ c .before .before .before .before .before .before .before .before .before .before .before .before .before .loop .inv .long
 
 returns-2 : tie.Need-returns-2 Inv-loop μ-loop
-returns-2 c = filling-fault (regimeFor (c .before .before .before .before .before .before .before .before .before .before .before .before .before .before .before .before .args .stb) (c .before .before .before .before .before .before .before .before .before .before .before .before .before .before .before .before .args .user) (c .before .before .before .before .before .before .before .before .before .before .before .before .before .before .before .before .args .translated)) (c .before .before .before .before .before .before .before .before .before .before .before .before .before .before .before .before .args .target) (c .before .before .before .before .before .before .before .before .before .before .before .before .before .before .before .before .args .m .now) (c .before .before .before .before .before .before .before .before .before .before .before .before .before .before .before .before .args .places .now) (c .before .before .before .before .before .before .before .before .before .before .before .before .before .before .before .before .args .words .now) (c .before .before .before .before .before .before .before .before .before .before .before .before .before .before .before .before .args .q .now) (c .before .before .before .before .before .before .before .before .before .before .before .before .before .before .before .before .args .r .now) _ _ _ _ _ _ _ (c .before .before .before .before .before .before .before .before .before .before .before .before .before .before .loop .inv) (c .before .before .before .before .before .before .before .before .before .before .before .before .before .loop-test .taken) _ (c .before .before .before .before .before .before .before .before .before .before .before .may-fill .ensures) (c .before .before .before .before .before .before .before .before .before .before .if1 .taken) _ _ _ _ _ _ (c .before .before .before .fill-quad .ensures) (c .if2 .taken)
+returns-2 c = filling-fault (regimeFor (c .before .before .before .before .before .before .before .before .before .before .before .before .before .before .before .args .stb) (c .before .before .before .before .before .before .before .before .before .before .before .before .before .before .before .args .user) (c .before .before .before .before .before .before .before .before .before .before .before .before .before .before .before .args .translated)) (c .before .before .before .before .before .before .before .before .before .before .before .before .before .before .before .args .target) (c .before .before .before .before .before .before .before .before .before .before .before .before .before .before .before .args .m .now) (c .before .before .before .before .before .before .before .before .before .before .before .before .before .before .before .args .journal .now) (c .before .before .before .before .before .before .before .before .before .before .before .before .before .before .before .args .q .now) (c .before .before .before .before .before .before .before .before .before .before .before .before .before .before .before .args .r .now) _ _ _ _ _ _ (c .before .before .before .before .before .before .before .before .before .before .before .before .before .loop .inv) (c .before .before .before .before .before .before .before .before .before .before .before .before .loop-test .taken) _ (c .before .before .before .before .before .before .before .before .before .before .may-fill .ensures) (c .before .before .before .before .before .before .before .before .before .if1 .taken) _ _ _ _ _ (c .before .before .before .fill-quad .ensures) (c .if2 .taken)
 
 same-length-3 : tie.Need-same-length-3 Inv-loop μ-loop
 same-length-3 c = c .before .before .before .before .loop .inv .long
 
 returns-3 : tie.Need-returns-3 Inv-loop μ-loop
-returns-3 c = filling-enough (regimeFor (c .before .before .before .before .before .before .args .stb) (c .before .before .before .before .before .before .args .user) (c .before .before .before .before .before .before .args .translated)) (c .before .before .before .before .before .before .args .target) (c .before .before .before .before .before .before .args .m .now) (c .before .before .before .before .before .before .args .places .now) (c .before .before .before .before .before .before .args .words .now) (c .before .before .before .before .before .before .args .q .now) (c .before .before .before .before .before .before .args .r .now) _ _ _ _ _ _ _ (c .before .before .before .before .loop .inv) (c .before .before .before .loop-test .taken) _ (c .before .may-fill .ensures) (c .if1 .left)
+returns-3 c = filling-enough (regimeFor (c .before .before .before .before .before .before .args .stb) (c .before .before .before .before .before .before .args .user) (c .before .before .before .before .before .before .args .translated)) (c .before .before .before .before .before .before .args .target) (c .before .before .before .before .before .before .args .m .now) (c .before .before .before .before .before .before .args .journal .now) (c .before .before .before .before .before .before .args .q .now) (c .before .before .before .before .before .before .args .r .now) _ _ _ _ _ _ (c .before .before .before .before .loop .inv) (c .before .before .before .loop-test .taken) _ (c .before .may-fill .ensures) (c .if1 .left)
 
 pub fill-spec : {M : Type 1} → statement M
 fill-spec =

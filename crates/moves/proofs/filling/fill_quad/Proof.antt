@@ -16,7 +16,7 @@ same-length : tie.Need-same-length
 same-length c = search needs
 
 returns : tie.Need-returns
-returns c = rw (c .before .before .before .before .before .before .before .before .if1 .taken) (c .fill-found .ensures (c .before .before .before .before .before .before .before .before .before .before .args .places .now) (c .before .before .before .before .before .before .before .before .before .before .args .words .now))
+returns c = rw (c .before .before .before .before .before .before .before .before .if1 .taken) (c .fill-found .ensures (c .before .before .before .before .before .before .before .before .before .before .args .journal .now))
 
 fill-words-requires : tie.Need-fill-words-requires
 fill-words-requires c κs = search needs

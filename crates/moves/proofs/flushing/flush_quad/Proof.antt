@@ -21,7 +21,7 @@ low32-requires : tie.Need-low32-requires
 low32-requires c κs = search needs
 
 flush-found-requires : tie.Need-flush-found-requires
-flush-found-requires c κs = quad-at _ _ _ _ _ _ _ (c .before .before .before .before .before .flush-place .ensures) (c .before .before .before .before .if2 .taken) (c .low32 .ensures)
+flush-found-requires c κs = quad-at _ _ _ _ _ _ _ (c .before .before .before .before .flush-place .ensures) (c .before .before .before .if2 .taken) (c .low32 .ensures)
 
 element-write-r : tie.Need-element-write-r
 element-write-r c = search needs
@@ -30,7 +30,7 @@ same-length : tie.Need-same-length
 same-length c = search needs
 
 returns : tie.Need-returns
-returns c = c .before .before .flush-found .ensures (c .before .before .before .before .before .before .before .before .before .before .before .before .before .before .before .before .before .args .r .now) (regime-found (c .before .before .before .before .before .before .before .before .before .before .before .before .before .before .before .before .before .args .r .now) _ _ _ refl (c .before .before .before .before .before .before .before .before .before .before .before .is-user .ensures) (c .before .before .before .before .before .before .before .before .before .before .before .before .before .before .is-virtual .ensures) (c .before .before .before .before .before .before .before .before .before .before .if1 .taken))
+returns c = c .before .before .flush-found .ensures (c .before .before .before .before .before .before .before .before .before .before .before .before .before .before .before .before .args .r .now) (regime-found (c .before .before .before .before .before .before .before .before .before .before .before .before .before .before .before .before .args .r .now) _ _ _ refl (c .before .before .before .before .before .before .before .before .before .before .is-user .ensures) (c .before .before .before .before .before .before .before .before .before .before .before .before .before .is-virtual .ensures) (c .before .before .before .before .before .before .before .before .before .if1 .taken))
 
 flush-words-requires : tie.Need-flush-words-requires
 flush-words-requires c κs = search needs

@@ -14,7 +14,7 @@ same-length : tie.Need-same-length
 same-length c = search needs
 
 returns : tie.Need-returns
-returns c = accumulator-written (c .before .before .before .before .before .before .before .before .before .before .before .args .r .now) _ (c .before .before .before .before .before .before .before .before .before .before .before .args .q .now) _ _ _ _ (journaled (c .before .before .before .before .before .before .before .before .before .before .before .args .m .now) (c .before .before .before .before .before .before .before .before .before .before .before .args .places .now) (c .before .before .before .before .before .before .before .before .before .before .before .args .words .now)) _ (c .before .before .before .before .before .before .before .before .stack-address .ensures) (c .before .before .store .ensures)
+returns c = accumulator-written (c .before .before .before .before .before .before .before .before .before .before .args .r .now) _ (c .before .before .before .before .before .before .before .before .before .before .args .q .now) _ _ _ _ (journaled (c .before .before .before .before .before .before .before .before .before .before .args .m .now) (c .before .before .before .before .before .before .before .before .before .before .args .journal .now)) _ (c .before .before .before .before .before .before .before .stack-address .ensures) (c .before .before .store .ensures)
 
 pub write-accumulator-spec : {M : Type 1} → statement M
 write-accumulator-spec =

@@ -21,10 +21,10 @@ same-length : tie.Need-same-length
 same-length c = search needs
 
 returns : tie.Need-returns
-returns c = (located-general (c .before .before .before .before .before .before .before .before .before .before .before .args .r .now) _ (c .before .before .before .before .before .before .before .before .before .before .before .args .q .now) (c .before .before .before .before .before .before .before .before .before .before .before .args .wide) (c .before .before .before .before .before .before .before .before .before .before .before .args .o) (c .before .before .locate-general .result) (journaled (c .before .before .before .before .before .before .before .before .before .before .before .args .m .now) (c .before .before .before .before .before .before .before .before .before .before .before .args .places .now) (c .before .before .before .before .before .before .before .before .before .before .before .args .words .now)) _ (c .before .before .before .before .before .before .before .before .o .given .0 .0) (c .before .before .before .before .before .before .before .before .o .given .0 .1 .0) (c .before .before .before .before .before .before .before .before .o .given .1) (c .before .before .locate-general .ensures .0), c .before .before .locate-general .ensures .1)
+returns c = (located-general (c .before .before .before .before .before .before .before .before .before .before .args .r .now) _ (c .before .before .before .before .before .before .before .before .before .before .args .q .now) (c .before .before .before .before .before .before .before .before .before .before .args .wide) (c .before .before .before .before .before .before .before .before .before .before .args .o) (c .before .before .locate-general .result) (journaled (c .before .before .before .before .before .before .before .before .before .before .args .m .now) (c .before .before .before .before .before .before .before .before .before .before .args .journal .now)) _ (c .before .before .before .before .before .before .before .o .given .0 .0) (c .before .before .before .before .before .before .before .o .given .0 .1 .0) (c .before .before .before .before .before .before .before .o .given .1) (c .before .before .locate-general .ensures .0), c .before .before .locate-general .ensures .1)
 
 returns-2 : tie.Need-returns-2
-returns-2 c = (located-register (c .before .before .before .before .args .r .now) (c .before .before .before .before .args .r .now) (c .before .before .before .before .args .q .now) (c .before .before .before .before .args .wide) (c .before .before .before .before .args .o) _ (journaled (c .before .before .before .before .args .m .now) (c .before .before .before .before .args .places .now) (c .before .before .before .before .args .words .now)) (journaled (c .before .before .before .before .args .m .now) (c .before .before .before .before .args .places .now) (c .before .before .before .before .args .words .now)) _ (c .before .enum-told .given .1) (c .good2 .ensures), λ _. refl)
+returns-2 c = (located-register (c .before .before .before .before .args .r .now) (c .before .before .before .before .args .r .now) (c .before .before .before .before .args .q .now) (c .before .before .before .before .args .wide) (c .before .before .before .before .args .o) _ (journaled (c .before .before .before .before .args .m .now) (c .before .before .before .before .args .journal .now)) (journaled (c .before .before .before .before .args .m .now) (c .before .before .before .before .args .journal .now)) _ (c .before .enum-told .given .1) (c .good2 .ensures), λ _. refl)
 
 pub locate-at-spec : {M : Type 1} → statement M
 locate-at-spec =

@@ -48,19 +48,19 @@ good-requires-3 : tie.Need-good-requires-3
 good-requires-3 c κs = search needs
 
 returns : tie.Need-returns
-returns c = (located-absolute (c .before .before .before .before .before .before .before .before .args .r .now) (c .before .before .before .before .before .before .before .before .args .q .now) (c .before .before .before .before .before .before .before .before .args .wide) (c .before .before .before .before .before .before .before .before .args .mode) (c .before .before .before .before .before .before .before .before .args .v) (journaled (c .before .before .before .before .before .before .before .before .args .m .now) (c .before .before .before .before .before .before .before .before .args .places .now) (c .before .before .before .before .before .before .before .before .args .words .now)) _ (c .before .before .before .before .before .before .kind-of .ensures) _ (c .before .before .before .before .enum-told .given .1) _ (c .before .absolute .ensures) (c .good2 .ensures), λ _. refl)
+returns c = (located-absolute (c .before .before .before .before .before .before .before .before .args .r .now) (c .before .before .before .before .before .before .before .before .args .q .now) (c .before .before .before .before .before .before .before .before .args .wide) (c .before .before .before .before .before .before .before .before .args .mode) (c .before .before .before .before .before .before .before .before .args .v) (journaled (c .before .before .before .before .before .before .before .before .args .m .now) (c .before .before .before .before .before .before .before .before .args .journal .now)) _ (c .before .before .before .before .before .before .kind-of .ensures) _ (c .before .before .before .before .enum-told .given .1) _ (c .before .absolute .ensures) (c .good2 .ensures), λ _. refl)
 
 returns-2 : tie.Need-returns-2
-returns-2 c = (located-offset (c .before .before .before .before .before .before .before .args .r .now) (c .before .before .before .before .before .before .before .args .q .now) (c .before .before .before .before .before .before .before .args .wide) (c .before .before .before .before .before .before .before .args .mode) (c .before .before .before .before .before .before .before .args .v) (journaled (c .before .before .before .before .before .before .before .args .m .now) (c .before .before .before .before .before .before .before .args .places .now) (c .before .before .before .before .before .before .before .args .words .now)) _ (c .before .before .before .before .before .kind-of .ensures) _ (c .before .before .before .enum-told2 .given .1) _ (c .before .stack-address .ensures) (c .good3 .ensures), λ _. refl)
+returns-2 c = (located-offset (c .before .before .before .before .before .before .before .args .r .now) (c .before .before .before .before .before .before .before .args .q .now) (c .before .before .before .before .before .before .before .args .wide) (c .before .before .before .before .before .before .before .args .mode) (c .before .before .before .before .before .before .before .args .v) (journaled (c .before .before .before .before .before .before .before .args .m .now) (c .before .before .before .before .before .before .before .args .journal .now)) _ (c .before .before .before .before .before .kind-of .ensures) _ (c .before .before .before .enum-told2 .given .1) _ (c .before .stack-address .ensures) (c .good3 .ensures), λ _. refl)
 
 same-length : tie.Need-same-length
 same-length c = search needs
 
 returns-3 : tie.Need-returns-3
-returns-3 c = (located-indirect (c .before .before .before .before .before .before .before .before .before .before .before .before .before .args .r .now) (c .before .before .before .before .before .before .before .before .before .before .before .before .before .args .q .now) (c .before .before .before .before .before .before .before .before .before .before .before .before .before .args .wide) (c .before .before .before .before .before .before .before .before .before .before .before .before .before .args .mode) (c .before .before .before .before .before .before .before .before .before .before .before .before .before .args .v) (journaled (c .before .before .before .before .before .before .before .before .before .before .before .before .before .args .m .now) (c .before .before .before .before .before .before .before .before .before .before .before .before .before .args .places .now) (c .before .before .before .before .before .before .before .before .before .before .before .before .before .args .words .now)) _ (c .before .before .before .before .before .before .before .before .before .before .before .kind-of .ensures) _ (c .before .before .before .before .before .before .before .before .before .enum-told3 .given .1) _ (c .before .before .before .before .before .before .before .stack-address2 .ensures) _ _ (c .before .before .load .ensures .0), c .before .before .load .ensures .1)
+returns-3 c = (located-indirect (c .before .before .before .before .before .before .before .before .before .before .before .before .args .r .now) (c .before .before .before .before .before .before .before .before .before .before .before .before .args .q .now) (c .before .before .before .before .before .before .before .before .before .before .before .before .args .wide) (c .before .before .before .before .before .before .before .before .before .before .before .before .args .mode) (c .before .before .before .before .before .before .before .before .before .before .before .before .args .v) (journaled (c .before .before .before .before .before .before .before .before .before .before .before .before .args .m .now) (c .before .before .before .before .before .before .before .before .before .before .before .before .args .journal .now)) _ (c .before .before .before .before .before .before .before .before .before .before .kind-of .ensures) _ (c .before .before .before .before .before .before .before .before .enum-told3 .given .1) _ (c .before .before .before .before .before .before .stack-address2 .ensures) _ _ (c .before .before .load .ensures .0), c .before .before .load .ensures .1)
 
 returns-4 : tie.Need-returns-4
-returns-4 c = (located-constant (c .before .before .before .before .before .args .r .now) (c .before .before .before .before .before .args .q .now) (c .before .before .before .before .before .args .wide) (c .before .before .before .before .before .args .mode) (c .before .before .before .before .before .args .v) (journaled (c .before .before .before .before .before .args .m .now) (c .before .before .before .before .before .args .places .now) (c .before .before .before .before .before .args .words .now)) _ (c .before .before .before .kind-of .ensures) _ (c .before .enum-told4 .given .1) (c .good4 .ensures), λ _. refl)
+returns-4 c = (located-constant (c .before .before .before .before .before .args .r .now) (c .before .before .before .before .before .args .q .now) (c .before .before .before .before .before .args .wide) (c .before .before .before .before .before .args .mode) (c .before .before .before .before .before .args .v) (journaled (c .before .before .before .before .before .args .m .now) (c .before .before .before .before .before .args .journal .now)) _ (c .before .before .before .kind-of .ensures) _ (c .before .enum-told4 .given .1) (c .good4 .ensures), λ _. refl)
 
 pub locate-general-spec : {M : Type 1} → statement M
 locate-general-spec =

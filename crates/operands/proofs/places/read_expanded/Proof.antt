@@ -23,13 +23,13 @@ same-length : tie.Need-same-length
 same-length c = search needs
 
 returns : tie.Need-returns
-returns c = (expanded-fault (c .before .before .before .before .before .before .before .before .before .before .args .r .now) _ (c .before .before .before .before .before .before .before .before .before .before .args .q .now) (c .before .before .before .before .before .before .before .before .before .before .args .mode) (c .before .before .before .before .before .before .before .before .before .before .args .a) _ _ (c .before .before .before .before .width-of .ensures) (journaled (c .before .before .before .before .before .before .before .before .before .before .args .m .now) (c .before .before .before .before .before .before .before .before .before .before .args .places .now) (c .before .before .before .before .before .before .before .before .before .before .args .words .now)) _ (c .before .before .before .load .ensures .0) (c .if1 .taken), c .before .before .before .load .ensures .1)
+returns c = (expanded-fault (c .before .before .before .before .before .before .before .before .before .args .r .now) _ (c .before .before .before .before .before .before .before .before .before .args .q .now) (c .before .before .before .before .before .before .before .before .before .args .mode) (c .before .before .before .before .before .before .before .before .before .args .a) _ _ (c .before .before .before .before .width-of .ensures) (journaled (c .before .before .before .before .before .before .before .before .before .args .m .now) (c .before .before .before .before .before .before .before .before .before .args .journal .now)) _ (c .before .before .before .load .ensures .0) (c .if1 .taken), c .before .before .before .load .ensures .1)
 
 same-length-2 : tie.Need-same-length-2
 same-length-2 c = search needs
 
 returns-2 : tie.Need-returns-2
-returns-2 c = (expanded-read (c .before .before .before .before .before .before .before .before .before .before .before .before .before .args .r .now) _ (c .before .before .before .before .before .before .before .before .before .before .before .before .before .args .q .now) (c .before .before .before .before .before .before .before .before .before .before .before .before .before .args .mode) (c .before .before .before .before .before .before .before .before .before .before .before .before .before .args .a) _ _ (c .before .before .before .before .before .before .before .width-of .ensures) (journaled (c .before .before .before .before .before .before .before .before .before .before .before .before .before .args .m .now) (c .before .before .before .before .before .before .before .before .before .before .before .before .before .args .places .now) (c .before .before .before .before .before .before .before .before .before .before .before .before .before .args .words .now)) _ (c .before .before .before .before .before .before .load .ensures .0) (c .before .before .before .if1 .left) _ _ _ (c .before .before .low32 .ensures) (c .before .expand .ensures) (c .good2 .ensures), λ _. c .before .before .before .before .before .before .load .ensures .1 (c .before .before .before .if1 .left))
+returns-2 c = (expanded-read (c .before .before .before .before .before .before .before .before .before .before .before .before .args .r .now) _ (c .before .before .before .before .before .before .before .before .before .before .before .before .args .q .now) (c .before .before .before .before .before .before .before .before .before .before .before .before .args .mode) (c .before .before .before .before .before .before .before .before .before .before .before .before .args .a) _ _ (c .before .before .before .before .before .before .before .width-of .ensures) (journaled (c .before .before .before .before .before .before .before .before .before .before .before .before .args .m .now) (c .before .before .before .before .before .before .before .before .before .before .before .before .args .journal .now)) _ (c .before .before .before .before .before .before .load .ensures .0) (c .before .before .before .if1 .left) _ _ _ (c .before .before .low32 .ensures) (c .before .expand .ensures) (c .good2 .ensures), λ _. c .before .before .before .before .before .before .load .ensures .1 (c .before .before .before .if1 .left))
 
 pub read-expanded-spec : {M : Type 1} → statement M
 read-expanded-spec =

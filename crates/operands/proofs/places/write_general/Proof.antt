@@ -17,13 +17,13 @@ store-requires : tie.Need-store-requires
 store-requires c κs = search needs
 
 returns : tie.Need-returns
-returns c = constant-written (c .before .before .before .before .args .r .now) (c .before .before .before .before .args .r .now) (c .before .before .before .before .args .q .now) (c .before .before .before .before .args .q .now) (c .before .before .before .before .args .mode) (c .before .before .before .before .args .held) (c .before .before .before .before .args .a) (c .before .before .before .before .args .v) _ _ (c .before .before .is-constant .ensures) (journaled (c .before .before .before .before .args .m .now) (c .before .before .before .before .args .places .now) (c .before .before .before .before .args .words .now)) (journaled (c .before .before .before .before .args .m .now) (c .before .before .before .before .args .places .now) (c .before .before .before .before .args .words .now)) (c .before .if1 .taken) (c .good2 .ensures)
+returns c = constant-written (c .before .before .before .before .args .r .now) (c .before .before .before .before .args .r .now) (c .before .before .before .before .args .q .now) (c .before .before .before .before .args .q .now) (c .before .before .before .before .args .mode) (c .before .before .before .before .args .held) (c .before .before .before .before .args .a) (c .before .before .before .before .args .v) _ _ (c .before .before .is-constant .ensures) (journaled (c .before .before .before .before .args .m .now) (c .before .before .before .before .args .journal .now)) (journaled (c .before .before .before .before .args .m .now) (c .before .before .before .before .args .journal .now)) (c .before .if1 .taken) (c .good2 .ensures)
 
 same-length : tie.Need-same-length
 same-length c = search needs
 
 returns-2 : tie.Need-returns-2
-returns-2 c = memory-written (c .before .before .before .before .before .before .before .before .before .before .before .before .args .r .now) _ (c .before .before .before .before .before .before .before .before .before .before .before .before .args .q .now) _ (c .before .before .before .before .before .before .before .before .before .before .before .before .args .mode) (c .before .before .before .before .before .before .before .before .before .before .before .before .args .held) (c .before .before .before .before .before .before .before .before .before .before .before .before .args .a) (c .before .before .before .before .before .before .before .before .before .before .before .before .args .v) _ _ (c .before .before .before .before .before .before .before .before .before .before .is-constant .ensures) (journaled (c .before .before .before .before .before .before .before .before .before .before .before .before .args .m .now) (c .before .before .before .before .before .before .before .before .before .before .before .before .args .places .now) (c .before .before .before .before .before .before .before .before .before .before .before .before .args .words .now)) _ (c .before .before .before .before .before .before .before .before .before .if1 .left) _ (c .before .before .before .width-of .ensures) (c .before .before .store .ensures)
+returns-2 c = memory-written (c .before .before .before .before .before .before .before .before .before .before .before .args .r .now) _ (c .before .before .before .before .before .before .before .before .before .before .before .args .q .now) _ (c .before .before .before .before .before .before .before .before .before .before .before .args .mode) (c .before .before .before .before .before .before .before .before .before .before .before .args .held) (c .before .before .before .before .before .before .before .before .before .before .before .args .a) (c .before .before .before .before .before .before .before .before .before .before .before .args .v) _ _ (c .before .before .before .before .before .before .before .before .before .is-constant .ensures) (journaled (c .before .before .before .before .before .before .before .before .before .before .before .args .m .now) (c .before .before .before .before .before .before .before .before .before .before .before .args .journal .now)) _ (c .before .before .before .before .before .before .before .before .if1 .left) _ (c .before .before .before .width-of .ensures) (c .before .before .store .ensures)
 
 pub write-general-spec : {M : Type 1} → statement M
 write-general-spec =
