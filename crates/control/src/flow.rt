@@ -23,16 +23,15 @@ ghost use Rattle.control.specs.Code.{callTo, loadAccumulator};
 
 pub fn jump(
     m: &mut [u8],
-    places: &mut [u32; 201],
-    words: &mut [[u8; 4]; 200],
+    journal: &mut [u64; 201],
     q: &[[u32; 4]; 16],
     r: &mut [u32; 17],
     mode: MonadicMode,
     v: u32,
 ) -> u64
-    ensures { λ x. ⌜ gave (ended (answerOf x) (now (r .exit)) (now (q .entry))) (journaled (now (m .exit)) (now (places .exit)) (now (words .exit))) ≡ interpret logging (jumpOf (cpu (now (r .entry)) (now (q .entry))) mode v) (journaled (now (m .entry)) (now (places .entry)) (now (words .entry))) ⌝ }
+    ensures { λ x. ⌜ gave (ended (answerOf x) (now (r .exit)) (now (q .entry))) (journaled (now (m .exit)) (now (journal .exit))) ≡ interpret logging (jumpOf (cpu (now (r .entry)) (now (q .entry))) mode v) (journaled (now (m .entry)) (now (journal .entry))) ⌝ }
 {
-    let x = read_word32(m, places, words, q, r, mode, v);
+    let x = read_word32(m, journal, q, r, mode, v);
     if 0x1_0000_0000 <= x {
         return x;
     }
@@ -43,8 +42,7 @@ pub fn jump(
 // JMPT and JMPF, whose flag was looked at; n is the parcels of the instruction.
 pub fn jump_if(
     m: &mut [u8],
-    places: &mut [u32; 201],
-    words: &mut [[u8; 4]; 200],
+    journal: &mut [u64; 201],
     q: &[[u32; 4]; 16],
     r: &mut [u32; 17],
     taken: bool,
@@ -52,10 +50,10 @@ pub fn jump_if(
     v: u32,
     n: u32,
 ) -> u64
-    ensures { λ x. ⌜ gave (ended (answerOf x) (now (r .exit)) (now (q .entry))) (journaled (now (m .exit)) (now (places .exit)) (now (words .exit))) ≡ interpret logging (jumpIf taken (cpu (now (r .entry)) (now (q .entry))) mode v n) (journaled (now (m .entry)) (now (places .entry)) (now (words .entry))) ⌝ }
+    ensures { λ x. ⌜ gave (ended (answerOf x) (now (r .exit)) (now (q .entry))) (journaled (now (m .exit)) (now (journal .exit))) ≡ interpret logging (jumpIf taken (cpu (now (r .entry)) (now (q .entry))) mode v n) (journaled (now (m .entry)) (now (journal .entry))) ⌝ }
 {
     if taken {
-        jump(m, places, words, q, r, mode, v)
+        jump(m, journal, q, r, mode, v)
     } else {
         advanced(r, n);
         0
@@ -65,18 +63,17 @@ pub fn jump_if(
 // The next PC to the word at the current stack pointer, then PC to a.
 fn call_to(
     m: &mut [u8],
-    places: &mut [u32; 201],
-    words: &mut [[u8; 4]; 200],
+    journal: &mut [u64; 201],
     q: &mut [[u32; 4]; 16],
     r: &mut [u32; 17],
     a: u32,
     n: u32,
 ) -> u64
-    ensures { λ x. ⌜ gave (ended (answerOf x) (now (r .exit)) (now (q .exit))) (journaled (now (m .exit)) (now (places .exit)) (now (words .exit))) ≡ interpret logging (callTo (cpu (now (r .entry)) (now (q .entry))) a n) (journaled (now (m .entry)) (now (places .entry)) (now (words .entry))) ⌝ }
+    ensures { λ x. ⌜ gave (ended (answerOf x) (now (r .exit)) (now (q .exit))) (journaled (now (m .exit)) (now (journal .exit))) ≡ interpret logging (callTo (cpu (now (r .entry)) (now (q .entry))) a n) (journaled (now (m .entry)) (now (journal .entry))) ⌝ }
 {
     let s = stack_pointer(r);
     let p = next_pc(r, n);
-    let x = store(m, places, words, q, r, Width::Word, s, p);
+    let x = store(m, journal, q, r, Width::Word, s, p);
     if 0x1_0000_0000 <= x {
         return x;
     }
@@ -86,37 +83,35 @@ fn call_to(
 
 pub fn call(
     m: &mut [u8],
-    places: &mut [u32; 201],
-    words: &mut [[u8; 4]; 200],
+    journal: &mut [u64; 201],
     q: &mut [[u32; 4]; 16],
     r: &mut [u32; 17],
     mode: MonadicMode,
     v: u32,
     n: u32,
 ) -> u64
-    ensures { λ x. ⌜ gave (ended (answerOf x) (now (r .exit)) (now (q .exit))) (journaled (now (m .exit)) (now (places .exit)) (now (words .exit))) ≡ interpret logging (callOf (cpu (now (r .entry)) (now (q .entry))) mode v n) (journaled (now (m .entry)) (now (places .entry)) (now (words .entry))) ⌝ }
+    ensures { λ x. ⌜ gave (ended (answerOf x) (now (r .exit)) (now (q .exit))) (journaled (now (m .exit)) (now (journal .exit))) ≡ interpret logging (callOf (cpu (now (r .entry)) (now (q .entry))) mode v n) (journaled (now (m .entry)) (now (journal .entry))) ⌝ }
 {
-    let x = read_word32(m, places, words, q, r, mode, v);
+    let x = read_word32(m, journal, q, r, mode, v);
     if 0x1_0000_0000 <= x {
         return x;
     }
-    call_to(m, places, words, q, r, low32(x), n)
+    call_to(m, journal, q, r, low32(x), n)
 }
 
 // a to the accumulator, then the instruction in line.
 fn load_accumulator(
     m: &mut [u8],
-    places: &mut [u32; 201],
-    words: &mut [[u8; 4]; 200],
+    journal: &mut [u64; 201],
     q: &mut [[u32; 4]; 16],
     r: &mut [u32; 17],
     a: u32,
     n: u32,
 ) -> u64
-    ensures { λ x. ⌜ gave (ended (answerOf x) (now (r .exit)) (now (q .exit))) (journaled (now (m .exit)) (now (places .exit)) (now (words .exit))) ≡ interpret logging (loadAccumulator (cpu (now (r .entry)) (now (q .entry))) a n) (journaled (now (m .entry)) (now (places .entry)) (now (words .entry))) ⌝ }
+    ensures { λ x. ⌜ gave (ended (answerOf x) (now (r .exit)) (now (q .exit))) (journaled (now (m .exit)) (now (journal .exit))) ≡ interpret logging (loadAccumulator (cpu (now (r .entry)) (now (q .entry))) a n) (journaled (now (m .entry)) (now (journal .entry))) ⌝ }
 {
     let s = stack_address(r, 4);
-    let x = store(m, places, words, q, r, Width::Word, s, a);
+    let x = store(m, journal, q, r, Width::Word, s, a);
     if 0x1_0000_0000 <= x {
         return x;
     }
@@ -127,36 +122,34 @@ fn load_accumulator(
 // LDRAA.
 pub fn load_address(
     m: &mut [u8],
-    places: &mut [u32; 201],
-    words: &mut [[u8; 4]; 200],
+    journal: &mut [u64; 201],
     q: &mut [[u32; 4]; 16],
     r: &mut [u32; 17],
     mode: MonadicMode,
     v: u32,
     n: u32,
 ) -> u64
-    ensures { λ x. ⌜ gave (ended (answerOf x) (now (r .exit)) (now (q .exit))) (journaled (now (m .exit)) (now (places .exit)) (now (words .exit))) ≡ interpret logging (loadAddress (cpu (now (r .entry)) (now (q .entry))) mode v n) (journaled (now (m .entry)) (now (places .entry)) (now (words .entry))) ⌝ }
+    ensures { λ x. ⌜ gave (ended (answerOf x) (now (r .exit)) (now (q .exit))) (journaled (now (m .exit)) (now (journal .exit))) ≡ interpret logging (loadAddress (cpu (now (r .entry)) (now (q .entry))) mode v n) (journaled (now (m .entry)) (now (journal .entry))) ⌝ }
 {
-    let x = read_word32(m, places, words, q, r, mode, v);
+    let x = read_word32(m, journal, q, r, mode, v);
     if 0x1_0000_0000 <= x {
         return x;
     }
-    load_accumulator(m, places, words, q, r, low32(x), n)
+    load_accumulator(m, journal, q, r, low32(x), n)
 }
 
 // RETURN.
 pub fn return_from(
     m: &mut [u8],
-    places: &mut [u32; 201],
-    words: &mut [[u8; 4]; 200],
+    journal: &mut [u64; 201],
     q: &[[u32; 4]; 16],
     r: &mut [u32; 17],
     v: u32,
 ) -> u64
-    ensures { λ x. ⌜ gave (ended (answerOf x) (now (r .exit)) (now (q .entry))) (journaled (now (m .exit)) (now (places .exit)) (now (words .exit))) ≡ interpret logging (returnOf (cpu (now (r .entry)) (now (q .entry))) v) (journaled (now (m .entry)) (now (places .entry)) (now (words .entry))) ⌝ }
+    ensures { λ x. ⌜ gave (ended (answerOf x) (now (r .exit)) (now (q .entry))) (journaled (now (m .exit)) (now (journal .exit))) ≡ interpret logging (returnOf (cpu (now (r .entry)) (now (q .entry))) v) (journaled (now (m .entry)) (now (journal .entry))) ⌝ }
 {
     let a = stack_address(r, v);
-    let x = load(m, places, words, q, r, Width::Word, a);
+    let x = load(m, journal, q, r, Width::Word, a);
     if 0x1_0000_0000 <= x {
         return x;
     }

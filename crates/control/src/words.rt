@@ -22,48 +22,38 @@ ghost use Rattle.control.specs.Code.{readThrough};
 // The word that the word at a points to.
 pub fn read_through(
     m: &mut [u8],
-    places: &mut [u32; 201],
-    words: &mut [[u8; 4]; 200],
+    journal: &mut [u64; 201],
     q: &[[u32; 4]; 16],
     r: &mut [u32; 17],
     a: u32,
 ) -> u64
-    ensures { λ x. ⌜ (gave (valued (answerOf x) (now (r .exit)) (now (q .entry))) (journaled (now (m .exit)) (now (places .exit)) (now (words .exit))) ≡ interpret logging (readThrough (cpu (now (r .entry)) (now (q .entry))) a) (journaled (now (m .entry)) (now (places .entry)) (now (words .entry)))) × (x < 2 ^ 32 → now (r .exit) ≡ now (r .entry)) ⌝ }
+    ensures { λ x. ⌜ (gave (valued (answerOf x) (now (r .exit)) (now (q .entry))) (journaled (now (m .exit)) (now (journal .exit))) ≡ interpret logging (readThrough (cpu (now (r .entry)) (now (q .entry))) a) (journaled (now (m .entry)) (now (journal .entry)))) × (x < 2 ^ 32 → now (r .exit) ≡ now (r .entry)) ⌝ }
 {
-    let x = load(m, places, words, q, r, Width::Word, a);
+    let x = load(m, journal, q, r, Width::Word, a);
     if 0x1_0000_0000 <= x {
         return x;
     }
-    load(m, places, words, q, r, Width::Word, low32(x))
+    load(m, journal, q, r, Width::Word, low32(x))
 }
 
 // The operand of a word mode, and where a flow mode goes.
 pub fn read_word32(
     m: &mut [u8],
-    places: &mut [u32; 201],
-    words: &mut [[u8; 4]; 200],
+    journal: &mut [u64; 201],
     q: &[[u32; 4]; 16],
     r: &mut [u32; 17],
     mode: MonadicMode,
     v: u32,
 ) -> u64
-    ensures { λ x. ⌜ (gave (valued (answerOf x) (now (r .exit)) (now (q .entry))) (journaled (now (m .exit)) (now (places .exit)) (now (words .exit))) ≡ interpret logging (readWord32 (cpu (now (r .entry)) (now (q .entry))) mode v) (journaled (now (m .entry)) (now (places .entry)) (now (words .entry)))) × (x < 2 ^ 32 → now (r .exit) ≡ now (r .entry)) ⌝ }
+    ensures { λ x. ⌜ (gave (valued (answerOf x) (now (r .exit)) (now (q .entry))) (journaled (now (m .exit)) (now (journal .exit))) ≡ interpret logging (readWord32 (cpu (now (r .entry)) (now (q .entry))) mode v) (journaled (now (m .entry)) (now (journal .entry)))) × (x < 2 ^ 32 → now (r .exit) ≡ now (r .entry)) ⌝ }
 {
     match mode {
-        MonadicMode::WordAbsolute => load(m, places, words, q, r, Width::Word, v),
-        MonadicMode::WordStack => load(m, places, words, q, r, Width::Word, stack_address(r, v)),
-        MonadicMode::WordIndirect => read_through(m, places, words, q, r, stack_address(r, v)),
+        MonadicMode::WordAbsolute => load(m, journal, q, r, Width::Word, v),
+        MonadicMode::WordStack => load(m, journal, q, r, Width::Word, stack_address(r, v)),
+        MonadicMode::WordIndirect => read_through(m, journal, q, r, stack_address(r, v)),
         MonadicMode::WordImmediate => good(v),
-        MonadicMode::FlowAbsoluteIndirect => load(m, places, words, q, r, Width::Word, v),
-        MonadicMode::FlowStackIndirect => load(
-            m,
-            places,
-            words,
-            q,
-            r,
-            Width::Word,
-            stack_address(r, v),
-        ),
+        MonadicMode::FlowAbsoluteIndirect => load(m, journal, q, r, Width::Word, v),
+        MonadicMode::FlowStackIndirect => load(m, journal, q, r, Width::Word, stack_address(r, v)),
         MonadicMode::FlowRelative => good(plus(r[5], v)),
         MonadicMode::FlowAbsolute => good(v),
     }

@@ -20,46 +20,39 @@ ghost use Rattle.exec.specs.Frames.{kcall as kcallOf, kret as kretOf};
 // n is the parcels of the instruction.
 pub fn kcall(
     m: &mut [u8],
-    places: &mut [u32; 201],
-    words: &mut [[u8; 4]; 200],
+    journal: &mut [u64; 201],
     q: &[[u32; 4]; 16],
     r: &mut [u32; 17],
     mode: MonadicMode,
     v: u32,
     n: u32,
 ) -> u64
-    ensures { λ x. ⌜ gave (ended (answerOf x) (now (r .exit)) (now (q .entry))) (journaled (now (m .exit)) (now (places .exit)) (now (words .exit))) ≡ interpret logging (kcallOf (cpu (now (r .entry)) (now (q .entry))) mode v n) (journaled (now (m .entry)) (now (places .entry)) (now (words .entry))) ⌝ }
+    ensures { λ x. ⌜ gave (ended (answerOf x) (now (r .exit)) (now (q .entry))) (journaled (now (m .exit)) (now (journal .exit))) ≡ interpret logging (kcallOf (cpu (now (r .entry)) (now (q .entry))) mode v n) (journaled (now (m .entry)) (now (journal .entry))) ⌝ }
 {
-    let x = read_word32(m, places, words, q, r, mode, v);
+    let x = read_word32(m, journal, q, r, mode, v);
     if 0x1_0000_0000 <= x {
         return x;
     }
     let a = low32(x);
     let p = next_pc(r, n);
-    let y = push_frame(m, places, words, q, r, a, p);
+    let y = push_frame(m, journal, q, r, a, p);
     if 0x1_0000_0000 <= y {
         return y;
     }
-    through_vector(m, places, words, q, r, 0)
+    through_vector(m, journal, q, r, 0)
 }
 
 // At kernel level; at user level it is exception 5.
-pub fn kret(
-    m: &mut [u8],
-    places: &mut [u32; 201],
-    words: &mut [[u8; 4]; 200],
-    q: &[[u32; 4]; 16],
-    r: &mut [u32; 17],
-) -> u64
-    ensures { λ x. ⌜ gave (ended (answerOf x) (now (r .exit)) (now (q .entry))) (journaled (now (m .exit)) (now (places .exit)) (now (words .exit))) ≡ interpret logging (kretOf (cpu (now (r .entry)) (now (q .entry)))) (journaled (now (m .entry)) (now (places .entry)) (now (words .entry))) ⌝ }
+pub fn kret(m: &mut [u8], journal: &mut [u64; 201], q: &[[u32; 4]; 16], r: &mut [u32; 17]) -> u64
+    ensures { λ x. ⌜ gave (ended (answerOf x) (now (r .exit)) (now (q .entry))) (journaled (now (m .exit)) (now (journal .exit))) ≡ interpret logging (kretOf (cpu (now (r .entry)) (now (q .entry)))) (journaled (now (m .entry)) (now (journal .entry))) ⌝ }
 {
     let i = plus(r[3], 8);
-    let x = read_frame(m, places, words, r, i);
+    let x = read_frame(m, journal, r, i);
     if 0x1_0000_0000 <= x {
         return 0x1_0000_0000;
     }
     let j = plus(r[3], 12);
-    let y = read_frame(m, places, words, r, j);
+    let y = read_frame(m, journal, r, j);
     if 0x1_0000_0000 <= y {
         return 0x1_0000_0000;
     }

@@ -19,22 +19,21 @@ ghost use Rattle.exec.specs.Frames.{pushPair, pushFrame, throughVector};
 // a as PC, and PSW.
 pub fn push_pair(
     m: &mut [u8],
-    places: &mut [u32; 201],
-    words: &mut [[u8; 4]; 200],
+    journal: &mut [u64; 201],
     q: &[[u32; 4]; 16],
     r: &mut [u32; 17],
     a: u32,
 ) -> u64
-    ensures { λ x. ⌜ gave (ended (answerOf x) (now (r .exit)) (now (q .entry))) (journaled (now (m .exit)) (now (places .exit)) (now (words .exit))) ≡ interpret logging (pushPair (cpu (now (r .entry)) (now (q .entry))) a) (journaled (now (m .entry)) (now (places .entry)) (now (words .entry))) ⌝ }
+    ensures { λ x. ⌜ gave (ended (answerOf x) (now (r .exit)) (now (q .entry))) (journaled (now (m .exit)) (now (journal .exit))) ≡ interpret logging (pushPair (cpu (now (r .entry)) (now (q .entry))) a) (journaled (now (m .entry)) (now (journal .entry))) ⌝ }
 {
     let i = minus(r[3], 8);
-    let x = write_frame(m, places, words, r, i, a);
+    let x = write_frame(m, journal, r, i, a);
     if 0x1_0000_0000 <= x {
         return 0x1_0000_0000;
     }
     let j = minus(r[3], 4);
     let p = r[6];
-    let y = write_frame(m, places, words, r, j, p);
+    let y = write_frame(m, journal, r, j, p);
     if 0x1_0000_0000 <= y {
         return 0x1_0000_0000;
     }
@@ -45,36 +44,34 @@ pub fn push_pair(
 // The same with a third word.
 pub fn push_frame(
     m: &mut [u8],
-    places: &mut [u32; 201],
-    words: &mut [[u8; 4]; 200],
+    journal: &mut [u64; 201],
     q: &[[u32; 4]; 16],
     r: &mut [u32; 17],
     v: u32,
     a: u32,
 ) -> u64
-    ensures { λ x. ⌜ gave (ended (answerOf x) (now (r .exit)) (now (q .entry))) (journaled (now (m .exit)) (now (places .exit)) (now (words .exit))) ≡ interpret logging (pushFrame (cpu (now (r .entry)) (now (q .entry))) v a) (journaled (now (m .entry)) (now (places .entry)) (now (words .entry))) ⌝ }
+    ensures { λ x. ⌜ gave (ended (answerOf x) (now (r .exit)) (now (q .entry))) (journaled (now (m .exit)) (now (journal .exit))) ≡ interpret logging (pushFrame (cpu (now (r .entry)) (now (q .entry))) v a) (journaled (now (m .entry)) (now (journal .entry))) ⌝ }
 {
     let i = minus(r[3], 12);
-    let x = write_frame(m, places, words, r, i, v);
+    let x = write_frame(m, journal, r, i, v);
     if 0x1_0000_0000 <= x {
         return 0x1_0000_0000;
     }
-    push_pair(m, places, words, q, r, a)
+    push_pair(m, journal, q, r, a)
 }
 
 // PC from the vector at an offset, and the PSW of a handler.
 pub fn through_vector(
     m: &mut [u8],
-    places: &mut [u32; 201],
-    words: &mut [[u8; 4]; 200],
+    journal: &mut [u64; 201],
     q: &[[u32; 4]; 16],
     r: &mut [u32; 17],
     offset: u32,
 ) -> u64
-    ensures { λ x. ⌜ gave (ended (answerOf x) (now (r .exit)) (now (q .entry))) (journaled (now (m .exit)) (now (places .exit)) (now (words .exit))) ≡ interpret logging (throughVector (cpu (now (r .entry)) (now (q .entry))) offset) (journaled (now (m .entry)) (now (places .entry)) (now (words .entry))) ⌝ }
+    ensures { λ x. ⌜ gave (ended (answerOf x) (now (r .exit)) (now (q .entry))) (journaled (now (m .exit)) (now (journal .exit))) ≡ interpret logging (throughVector (cpu (now (r .entry)) (now (q .entry))) offset) (journaled (now (m .entry)) (now (journal .entry))) ⌝ }
 {
     let i = plus(r[12], offset);
-    let x = read_frame(m, places, words, r, i);
+    let x = read_frame(m, journal, r, i);
     if 0x1_0000_0000 <= x {
         return 0x1_0000_0000;
     }

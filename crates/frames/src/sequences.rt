@@ -27,56 +27,48 @@ ghost use Rattle.exec.specs.Frames.{interruptSequence, exceptionSequence, store
 // An interrupt through the vector at an offset.
 pub fn interrupt_sequence(
     m: &mut [u8],
-    places: &mut [u32; 201],
-    words: &mut [[u8; 4]; 200],
+    journal: &mut [u64; 201],
     q: &[[u32; 4]; 16],
     r: &mut [u32; 17],
     vector: u32,
 ) -> u64
-    ensures { λ x. ⌜ gave (ended (answerOf x) (now (r .exit)) (now (q .entry))) (journaled (now (m .exit)) (now (places .exit)) (now (words .exit))) ≡ interpret logging (interruptSequence (cpu (now (r .entry)) (now (q .entry))) vector) (journaled (now (m .entry)) (now (places .entry)) (now (words .entry))) ⌝ }
+    ensures { λ x. ⌜ gave (ended (answerOf x) (now (r .exit)) (now (q .entry))) (journaled (now (m .exit)) (now (journal .exit))) ≡ interpret logging (interruptSequence (cpu (now (r .entry)) (now (q .entry))) vector) (journaled (now (m .entry)) (now (journal .entry))) ⌝ }
 {
     let p = r[5];
     restored_csp(r);
-    let x = push_pair(m, places, words, q, r, p);
+    let x = push_pair(m, journal, q, r, p);
     if 0x1_0000_0000 <= x {
         return x;
     }
-    through_vector(m, places, words, q, r, vector)
+    through_vector(m, journal, q, r, vector)
 }
 
 // Exception e.
 pub fn exception_sequence(
     m: &mut [u8],
-    places: &mut [u32; 201],
-    words: &mut [[u8; 4]; 200],
+    journal: &mut [u64; 201],
     q: &[[u32; 4]; 16],
     r: &mut [u32; 17],
     e: u32,
 ) -> u64
-    ensures { λ x. ⌜ gave (ended (answerOf x) (now (r .exit)) (now (q .entry))) (journaled (now (m .exit)) (now (places .exit)) (now (words .exit))) ≡ interpret logging (exceptionSequence (cpu (now (r .entry)) (now (q .entry))) e) (journaled (now (m .entry)) (now (places .entry)) (now (words .entry))) ⌝ }
+    ensures { λ x. ⌜ gave (ended (answerOf x) (now (r .exit)) (now (q .entry))) (journaled (now (m .exit)) (now (journal .exit))) ≡ interpret logging (exceptionSequence (cpu (now (r .entry)) (now (q .entry))) e) (journaled (now (m .entry)) (now (journal .entry))) ⌝ }
 {
     let p = r[5];
     restored_csp(r);
-    let x = push_frame(m, places, words, q, r, e, p);
+    let x = push_frame(m, journal, q, r, e, p);
     if 0x1_0000_0000 <= x {
         return x;
     }
-    through_vector(m, places, words, q, r, 4)
+    through_vector(m, journal, q, r, 4)
 }
 
 // PC at the interrupt stack pointer.
-fn store_pc(
-    m: &mut [u8],
-    places: &mut [u32; 201],
-    words: &mut [[u8; 4]; 200],
-    q: &[[u32; 4]; 16],
-    r: &[u32; 17],
-) -> u64
-    ensures { λ x. ⌜ gave (ended (answerOf x) (now (r .entry)) (now (q .entry))) (journaled (now (m .exit)) (now (places .exit)) (now (words .exit))) ≡ interpret logging (storePc (cpu (now (r .entry)) (now (q .entry)))) (journaled (now (m .entry)) (now (places .entry)) (now (words .entry))) ⌝ }
+fn store_pc(m: &mut [u8], journal: &mut [u64; 201], q: &[[u32; 4]; 16], r: &[u32; 17]) -> u64
+    ensures { λ x. ⌜ gave (ended (answerOf x) (now (r .entry)) (now (q .entry))) (journaled (now (m .exit)) (now (journal .exit))) ≡ interpret logging (storePc (cpu (now (r .entry)) (now (q .entry)))) (journaled (now (m .entry)) (now (journal .entry))) ⌝ }
 {
     let i = r[3];
     let p = r[5];
-    let x = write_frame(m, places, words, r, i, p);
+    let x = write_frame(m, journal, r, i, p);
     if 0x1_0000_0000 <= x {
         return 0x1_0000_0000;
     }
@@ -84,41 +76,34 @@ fn store_pc(
 }
 
 // PC at the current stack pointer.
-fn save_pc(
-    m: &mut [u8],
-    places: &mut [u32; 201],
-    words: &mut [[u8; 4]; 200],
-    q: &mut [[u32; 4]; 16],
-    r: &mut [u32; 17],
-) -> u64
-    ensures { λ x. ⌜ gave (ended (answerOf x) (now (r .exit)) (now (q .exit))) (journaled (now (m .exit)) (now (places .exit)) (now (words .exit))) ≡ interpret logging (cond (spCurrent (now (r .entry))) (writeData (cpu (now (r .entry)) (now (q .entry))) width.Word (word (now (r .entry)) sp) (word (now (r .entry)) pc)) (storePc (cpu (now (r .entry)) (now (q .entry))))) (journaled (now (m .entry)) (now (places .entry)) (now (words .entry))) ⌝ }
+fn save_pc(m: &mut [u8], journal: &mut [u64; 201], q: &mut [[u32; 4]; 16], r: &mut [u32; 17]) -> u64
+    ensures { λ x. ⌜ gave (ended (answerOf x) (now (r .exit)) (now (q .exit))) (journaled (now (m .exit)) (now (journal .exit))) ≡ interpret logging (cond (spCurrent (now (r .entry))) (writeData (cpu (now (r .entry)) (now (q .entry))) width.Word (word (now (r .entry)) sp) (word (now (r .entry)) pc)) (storePc (cpu (now (r .entry)) (now (q .entry))))) (journaled (now (m .entry)) (now (journal .entry))) ⌝ }
 {
     if sp_current(r) {
         let s = r[8];
         let p = r[5];
-        store(m, places, words, q, r, Width::Word, s, p)
+        store(m, journal, q, r, Width::Word, s, p)
     } else {
-        store_pc(m, places, words, q, r)
+        store_pc(m, journal, q, r)
     }
 }
 
 // An unimplemented instruction or a trapped niladic, by its vector.
 pub fn unimplemented_sequence(
     m: &mut [u8],
-    places: &mut [u32; 201],
-    words: &mut [[u8; 4]; 200],
+    journal: &mut [u64; 201],
     q: &mut [[u32; 4]; 16],
     r: &mut [u32; 17],
     vector: u32,
 ) -> u64
-    ensures { λ x. ⌜ gave (ended (answerOf x) (now (r .exit)) (now (q .exit))) (journaled (now (m .exit)) (now (places .exit)) (now (words .exit))) ≡ interpret logging (unimplementedSequence (cpu (now (r .entry)) (now (q .entry))) vector) (journaled (now (m .entry)) (now (places .entry)) (now (words .entry))) ⌝ }
+    ensures { λ x. ⌜ gave (ended (answerOf x) (now (r .exit)) (now (q .exit))) (journaled (now (m .exit)) (now (journal .exit))) ≡ interpret logging (unimplementedSequence (cpu (now (r .entry)) (now (q .entry))) vector) (journaled (now (m .entry)) (now (journal .entry))) ⌝ }
 {
-    let x = save_pc(m, places, words, q, r);
+    let x = save_pc(m, journal, q, r);
     if 0x1_0000_0000 <= x {
         return x;
     }
     let i = plus(r[12], vector);
-    let y = read_frame(m, places, words, r, i);
+    let y = read_frame(m, journal, r, i);
     if 0x1_0000_0000 <= y {
         return 0x1_0000_0000;
     }

@@ -14,7 +14,7 @@ same-length : tie.Need-same-length
 same-length c = (c .before .before .before .store .kept .0)
 
 returns : tie.Need-returns
-returns c = accumulated-stopped (c .before .before .before .before .before .before .before .before .before .before .before .before .args .r .now) (c .before .before .before .before .before .before .before .before .before .before .before .before .args .q .now) _ _ _ _ _ (journaled (c .before .before .before .before .before .before .before .before .before .before .before .before .args .m .now) (c .before .before .before .before .before .before .before .before .before .before .before .before .args .places .now) (c .before .before .before .before .before .before .before .before .before .before .before .before .args .words .now)) _ (c .before .before .before .store .ensures) (c .before .before .before .before .before .before .before .before .before .before .before .before .args .n) (c .before .before .before .before .before .before .before .before .before .stack-address .ensures) (c .if1 .taken)
+returns c = accumulated-stopped (c .before .before .before .before .before .before .before .before .before .before .before .args .r .now) (c .before .before .before .before .before .before .before .before .before .before .before .args .q .now) _ _ _ _ _ (journaled (c .before .before .before .before .before .before .before .before .before .before .before .args .m .now) (c .before .before .before .before .before .before .before .before .before .before .before .args .journal .now)) _ (c .before .before .before .store .ensures) (c .before .before .before .before .before .before .before .before .before .before .before .args .n) (c .before .before .before .before .before .before .before .before .stack-address .ensures) (c .if1 .taken)
 
 advanced-requires : tie.Need-advanced-requires
 advanced-requires c κs = search needs
@@ -23,7 +23,7 @@ same-length-2 : tie.Need-same-length-2
 same-length-2 c = (c .before .before .before .before .before .store .kept .0)
 
 returns-2 : tie.Need-returns-2
-returns-2 c = accumulated-gone (c .before .before .before .before .before .before .before .before .before .before .before .before .before .before .args .r .now) (c .before .before .before .before .before .before .before .before .before .before .before .before .before .before .args .q .now) _ _ _ _ _ (journaled (c .before .before .before .before .before .before .before .before .before .before .before .before .before .before .args .m .now) (c .before .before .before .before .before .before .before .before .before .before .before .before .before .before .args .places .now) (c .before .before .before .before .before .before .before .before .before .before .before .before .before .before .args .words .now)) _ (c .before .before .before .before .before .store .ensures) (c .before .before .before .before .before .before .before .before .before .before .before .before .before .before .args .n) (c .before .before .before .before .before .before .before .before .before .before .before .stack-address .ensures) (c .before .before .if1 .left) _ (c .advanced .ensures)
+returns-2 c = accumulated-gone (c .before .before .before .before .before .before .before .before .before .before .before .before .before .args .r .now) (c .before .before .before .before .before .before .before .before .before .before .before .before .before .args .q .now) _ _ _ _ _ (journaled (c .before .before .before .before .before .before .before .before .before .before .before .before .before .args .m .now) (c .before .before .before .before .before .before .before .before .before .before .before .before .before .args .journal .now)) _ (c .before .before .before .before .before .store .ensures) (c .before .before .before .before .before .before .before .before .before .before .before .before .before .args .n) (c .before .before .before .before .before .before .before .before .before .before .stack-address .ensures) (c .before .before .if1 .left) _ (c .advanced .ensures)
 
 pub load-accumulator-spec : {M : Type 1} → statement M
 load-accumulator-spec =

@@ -12,7 +12,7 @@ same-length : tie.Need-same-length
 same-length c = (c .before .before .before .read-word32 .kept .0)
 
 returns : tie.Need-returns
-returns c = load-stopped (c .before .before .before .before .before .before .before .before .before .before .args .r .now) (c .before .before .before .before .before .before .before .before .before .before .args .q .now) (c .before .before .before .before .before .before .before .before .before .before .args .mode) (c .before .before .before .before .before .before .before .before .before .before .args .v) _ _ (journaled (c .before .before .before .before .before .before .before .before .before .before .args .m .now) (c .before .before .before .before .before .before .before .before .before .before .args .places .now) (c .before .before .before .before .before .before .before .before .before .before .args .words .now)) _ (c .before .before .before .read-word32 .ensures) (c .if1 .taken) (c .before .before .before .before .before .before .before .before .before .before .args .n)
+returns c = load-stopped (c .before .before .before .before .before .before .before .before .before .args .r .now) (c .before .before .before .before .before .before .before .before .before .args .q .now) (c .before .before .before .before .before .before .before .before .before .args .mode) (c .before .before .before .before .before .before .before .before .before .args .v) _ _ (journaled (c .before .before .before .before .before .before .before .before .before .args .m .now) (c .before .before .before .before .before .before .before .before .before .args .journal .now)) _ (c .before .before .before .read-word32 .ensures) (c .if1 .taken) (c .before .before .before .before .before .before .before .before .before .args .n)
 
 low32-requires : tie.Need-low32-requires
 low32-requires c κs = search needs
@@ -21,10 +21,10 @@ load-accumulator-requires : tie.Need-load-accumulator-requires
 load-accumulator-requires c κs = search needs
 
 same-length-2 : tie.Need-same-length-2
-same-length-2 c = (c .before .before .load-accumulator .kept .0) ∙ (c .before .before .before .before .before .before .before .before .before .before .before .before .read-word32 .kept .0)
+same-length-2 c = (c .before .before .load-accumulator .kept .0) ∙ (c .before .before .before .before .before .before .before .before .before .before .before .read-word32 .kept .0)
 
 returns-2 : tie.Need-returns-2
-returns-2 c = load-gone (c .before .before .before .before .before .before .before .before .before .before .before .before .before .before .before .before .before .before .before .args .r .now) (c .before .before .before .before .before .before .before .before .before .before .before .before .before .before .before .before .before .before .before .args .q .now) (c .before .before .before .before .before .before .before .before .before .before .before .before .before .before .before .before .before .before .before .args .mode) (c .before .before .before .before .before .before .before .before .before .before .before .before .before .before .before .before .before .before .before .args .v) _ _ (journaled (c .before .before .before .before .before .before .before .before .before .before .before .before .before .before .before .before .before .before .before .args .m .now) (c .before .before .before .before .before .before .before .before .before .before .before .before .before .before .before .before .before .before .before .args .places .now) (c .before .before .before .before .before .before .before .before .before .before .before .before .before .before .before .before .before .before .before .args .words .now)) _ (c .before .before .before .before .before .before .before .before .before .before .before .before .read-word32 .ensures) (c .before .before .before .before .before .before .before .before .before .if1 .left) _ (c .before .before .before .low32 .ensures) (c .before .before .before .before .before .before .before .before .before .before .before .before .before .before .before .before .before .before .before .args .n) _ (c .before .before .load-accumulator .ensures)
+returns-2 c = load-gone (c .before .before .before .before .before .before .before .before .before .before .before .before .before .before .before .before .before .args .r .now) (c .before .before .before .before .before .before .before .before .before .before .before .before .before .before .before .before .before .args .q .now) (c .before .before .before .before .before .before .before .before .before .before .before .before .before .before .before .before .before .args .mode) (c .before .before .before .before .before .before .before .before .before .before .before .before .before .before .before .before .before .args .v) _ _ (journaled (c .before .before .before .before .before .before .before .before .before .before .before .before .before .before .before .before .before .args .m .now) (c .before .before .before .before .before .before .before .before .before .before .before .before .before .before .before .before .before .args .journal .now)) _ (c .before .before .before .before .before .before .before .before .before .before .before .read-word32 .ensures) (c .before .before .before .before .before .before .before .before .if1 .left) _ (c .before .before .before .low32 .ensures) (c .before .before .before .before .before .before .before .before .before .before .before .before .before .before .before .before .before .args .n) _ (c .before .before .load-accumulator .ensures)
 
 pub load-address-spec : {M : Type 1} → statement M
 load-address-spec =

@@ -14,7 +14,7 @@ same-length : tie.Need-same-length
 same-length c = (c .before .before .before .load .kept .0)
 
 returns : tie.Need-returns
-returns c = return-stopped (c .before .before .before .before .before .before .before .before .before .before .before .args .r .now) (c .before .before .before .before .before .before .before .before .before .before .before .args .q .now) (c .before .before .before .before .before .before .before .before .before .before .before .args .v) _ _ _ (journaled (c .before .before .before .before .before .before .before .before .before .before .before .args .m .now) (c .before .before .before .before .before .before .before .before .before .before .before .args .places .now) (c .before .before .before .before .before .before .before .before .before .before .before .args .words .now)) _ (c .before .before .before .before .before .before .before .before .stack-address .ensures) (c .before .before .before .load .ensures) (c .if1 .taken)
+returns c = return-stopped (c .before .before .before .before .before .before .before .before .before .before .args .r .now) (c .before .before .before .before .before .before .before .before .before .before .args .q .now) (c .before .before .before .before .before .before .before .before .before .before .args .v) _ _ _ (journaled (c .before .before .before .before .before .before .before .before .before .before .args .m .now) (c .before .before .before .before .before .before .before .before .before .before .args .journal .now)) _ (c .before .before .before .before .before .before .before .stack-address .ensures) (c .before .before .before .load .ensures) (c .if1 .taken)
 
 released-requires : tie.Need-released-requires
 released-requires c κs = search needs
@@ -29,7 +29,7 @@ same-length-2 : tie.Need-same-length-2
 same-length-2 c = (c .before .before .before .before .before .before .before .before .load .kept .0)
 
 returns-2 : tie.Need-returns-2
-returns-2 c = return-gone (c .before .before .before .before .before .before .before .before .before .before .before .before .before .before .before .before .args .r .now) (c .before .before .before .before .before .before .before .before .before .before .before .before .before .before .before .before .args .q .now) (c .before .before .before .before .before .before .before .before .before .before .before .before .before .before .before .before .args .v) _ _ _ (journaled (c .before .before .before .before .before .before .before .before .before .before .before .before .before .before .before .before .args .m .now) (c .before .before .before .before .before .before .before .before .before .before .before .before .before .before .before .before .args .places .now) (c .before .before .before .before .before .before .before .before .before .before .before .before .before .before .before .before .args .words .now)) _ (c .before .before .before .before .before .before .before .before .before .before .before .before .before .stack-address .ensures) (c .before .before .before .before .before .before .before .before .load .ensures) (c .before .before .before .before .before .if1 .left) _ (c .before .before .before .released .ensures) _ (c .before .low32 .ensures) _ (c .jumped .ensures)
+returns-2 c = return-gone (c .before .before .before .before .before .before .before .before .before .before .before .before .before .before .before .args .r .now) (c .before .before .before .before .before .before .before .before .before .before .before .before .before .before .before .args .q .now) (c .before .before .before .before .before .before .before .before .before .before .before .before .before .before .before .args .v) _ _ _ (journaled (c .before .before .before .before .before .before .before .before .before .before .before .before .before .before .before .args .m .now) (c .before .before .before .before .before .before .before .before .before .before .before .before .before .before .before .args .journal .now)) _ (c .before .before .before .before .before .before .before .before .before .before .before .before .stack-address .ensures) (c .before .before .before .before .before .before .before .before .load .ensures) (c .before .before .before .before .before .if1 .left) _ (c .before .before .before .released .ensures) _ (c .before .low32 .ensures) _ (c .jumped .ensures)
 
 pub return-from-spec : {M : Type 1} → statement M
 return-from-spec =

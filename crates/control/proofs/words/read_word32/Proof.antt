@@ -71,40 +71,40 @@ same-length : tie.Need-same-length
 same-length c = search needs
 
 returns : tie.Need-returns
-returns c = by-absolute (c .before .before .before .before .before .before .before .before .before .before .args .r .now) (c .before .before .before .before .before .before .before .before .before .before .args .q .now) (c .before .before .before .before .before .before .before .before .before .before .args .mode) (c .before .before .before .before .before .before .before .before .before .before .args .v) _ _ (journaled (c .before .before .before .before .before .before .before .before .before .before .args .m .now) (c .before .before .before .before .before .before .before .before .before .before .args .places .now) (c .before .before .before .before .before .before .before .before .before .before .args .words .now)) _ (c .before .before .before .before .before .before .before .enum-told .given .1) (c .before .before .load .ensures)
+returns c = by-absolute (c .before .before .before .before .before .before .before .before .before .args .r .now) (c .before .before .before .before .before .before .before .before .before .args .q .now) (c .before .before .before .before .before .before .before .before .before .args .mode) (c .before .before .before .before .before .before .before .before .before .args .v) _ _ (journaled (c .before .before .before .before .before .before .before .before .before .args .m .now) (c .before .before .before .before .before .before .before .before .before .args .journal .now)) _ (c .before .before .before .before .before .before .enum-told .given .1) (c .before .before .load .ensures)
 
 same-length-2 : tie.Need-same-length-2
 same-length-2 c = search needs
 
 returns-2 : tie.Need-returns-2
-returns-2 c = by-stack (c .before .before .before .before .before .before .before .before .before .before .before .before .args .r .now) (c .before .before .before .before .before .before .before .before .before .before .before .before .args .q .now) (c .before .before .before .before .before .before .before .before .before .before .before .before .args .mode) (c .before .before .before .before .before .before .before .before .before .before .before .before .args .v) _ _ (journaled (c .before .before .before .before .before .before .before .before .before .before .before .before .args .m .now) (c .before .before .before .before .before .before .before .before .before .before .before .before .args .places .now) (c .before .before .before .before .before .before .before .before .before .before .before .before .args .words .now)) _ _ (c .before .before .before .stack-address .ensures) (c .before .before .before .before .before .before .before .before .before .enum-told2 .given .1) (c .before .before .load2 .ensures)
+returns-2 c = by-stack (c .before .before .before .before .before .before .before .before .before .before .before .args .r .now) (c .before .before .before .before .before .before .before .before .before .before .before .args .q .now) (c .before .before .before .before .before .before .before .before .before .before .before .args .mode) (c .before .before .before .before .before .before .before .before .before .before .before .args .v) _ _ (journaled (c .before .before .before .before .before .before .before .before .before .before .before .args .m .now) (c .before .before .before .before .before .before .before .before .before .before .before .args .journal .now)) _ _ (c .before .before .before .stack-address .ensures) (c .before .before .before .before .before .before .before .before .enum-told2 .given .1) (c .before .before .load2 .ensures)
 
 same-length-3 : tie.Need-same-length-3
 same-length-3 c = search needs
 
 returns-3 : tie.Need-returns-3
-returns-3 c = by-indirect (c .before .before .before .before .before .before .before .before .before .before .before .before .args .r .now) (c .before .before .before .before .before .before .before .before .before .before .before .before .args .q .now) (c .before .before .before .before .before .before .before .before .before .before .before .before .args .mode) (c .before .before .before .before .before .before .before .before .before .before .before .before .args .v) _ _ (journaled (c .before .before .before .before .before .before .before .before .before .before .before .before .args .m .now) (c .before .before .before .before .before .before .before .before .before .before .before .before .args .places .now) (c .before .before .before .before .before .before .before .before .before .before .before .before .args .words .now)) _ _ (c .before .before .before .stack-address2 .ensures) (c .before .before .before .before .before .before .before .before .before .enum-told3 .given .1) (c .before .before .read-through .ensures)
+returns-3 c = by-indirect (c .before .before .before .before .before .before .before .before .before .before .before .args .r .now) (c .before .before .before .before .before .before .before .before .before .before .before .args .q .now) (c .before .before .before .before .before .before .before .before .before .before .before .args .mode) (c .before .before .before .before .before .before .before .before .before .before .before .args .v) _ _ (journaled (c .before .before .before .before .before .before .before .before .before .before .before .args .m .now) (c .before .before .before .before .before .before .before .before .before .before .before .args .journal .now)) _ _ (c .before .before .before .stack-address2 .ensures) (c .before .before .before .before .before .before .before .before .enum-told3 .given .1) (c .before .before .read-through .ensures)
 
 returns-4 : tie.Need-returns-4
-returns-4 c = by-immediate (c .before .before .before .before .args .r .now) (c .before .before .before .before .args .q .now) (c .before .before .before .before .args .mode) (c .before .before .before .before .args .v) _ (journaled (c .before .before .before .before .args .m .now) (c .before .before .before .before .args .places .now) (c .before .before .before .before .args .words .now)) (c .before .enum-told4 .given .1) (c .good2 .ensures)
+returns-4 c = by-immediate (c .before .before .before .before .args .r .now) (c .before .before .before .before .args .q .now) (c .before .before .before .before .args .mode) (c .before .before .before .before .args .v) _ (journaled (c .before .before .before .before .args .m .now) (c .before .before .before .before .args .journal .now)) (c .before .enum-told4 .given .1) (c .good2 .ensures)
 
 same-length-4 : tie.Need-same-length-4
 same-length-4 c = search needs
 
 returns-5 : tie.Need-returns-5
-returns-5 c = by-absolute-indirect (c .before .before .before .before .before .before .before .before .before .before .args .r .now) (c .before .before .before .before .before .before .before .before .before .before .args .q .now) (c .before .before .before .before .before .before .before .before .before .before .args .mode) (c .before .before .before .before .before .before .before .before .before .before .args .v) _ _ (journaled (c .before .before .before .before .before .before .before .before .before .before .args .m .now) (c .before .before .before .before .before .before .before .before .before .before .args .places .now) (c .before .before .before .before .before .before .before .before .before .before .args .words .now)) _ (c .before .before .before .before .before .before .before .enum-told5 .given .1) (c .before .before .load3 .ensures)
+returns-5 c = by-absolute-indirect (c .before .before .before .before .before .before .before .before .before .args .r .now) (c .before .before .before .before .before .before .before .before .before .args .q .now) (c .before .before .before .before .before .before .before .before .before .args .mode) (c .before .before .before .before .before .before .before .before .before .args .v) _ _ (journaled (c .before .before .before .before .before .before .before .before .before .args .m .now) (c .before .before .before .before .before .before .before .before .before .args .journal .now)) _ (c .before .before .before .before .before .before .enum-told5 .given .1) (c .before .before .load3 .ensures)
 
 same-length-5 : tie.Need-same-length-5
 same-length-5 c = search needs
 
 returns-6 : tie.Need-returns-6
-returns-6 c = by-stack-indirect (c .before .before .before .before .before .before .before .before .before .before .before .before .args .r .now) (c .before .before .before .before .before .before .before .before .before .before .before .before .args .q .now) (c .before .before .before .before .before .before .before .before .before .before .before .before .args .mode) (c .before .before .before .before .before .before .before .before .before .before .before .before .args .v) _ _ (journaled (c .before .before .before .before .before .before .before .before .before .before .before .before .args .m .now) (c .before .before .before .before .before .before .before .before .before .before .before .before .args .places .now) (c .before .before .before .before .before .before .before .before .before .before .before .before .args .words .now)) _ _ (c .before .before .before .stack-address3 .ensures) (c .before .before .before .before .before .before .before .before .before .enum-told6 .given .1) (c .before .before .load4 .ensures)
+returns-6 c = by-stack-indirect (c .before .before .before .before .before .before .before .before .before .before .before .args .r .now) (c .before .before .before .before .before .before .before .before .before .before .before .args .q .now) (c .before .before .before .before .before .before .before .before .before .before .before .args .mode) (c .before .before .before .before .before .before .before .before .before .before .before .args .v) _ _ (journaled (c .before .before .before .before .before .before .before .before .before .before .before .args .m .now) (c .before .before .before .before .before .before .before .before .before .before .before .args .journal .now)) _ _ (c .before .before .before .stack-address3 .ensures) (c .before .before .before .before .before .before .before .before .enum-told6 .given .1) (c .before .before .load4 .ensures)
 
 returns-7 : tie.Need-returns-7
-returns-7 c = by-relative (c .before .before .before .before .before .before .args .r .now) (c .before .before .before .before .before .before .args .q .now) (c .before .before .before .before .before .before .args .mode) (c .before .before .before .before .before .before .args .v) _ (journaled (c .before .before .before .before .before .before .args .m .now) (c .before .before .before .before .before .before .args .places .now) (c .before .before .before .before .before .before .args .words .now)) (c .before .before .before .enum-told7 .given .1) _ (c .before .plus .ensures) (c .good3 .ensures)
+returns-7 c = by-relative (c .before .before .before .before .before .before .args .r .now) (c .before .before .before .before .before .before .args .q .now) (c .before .before .before .before .before .before .args .mode) (c .before .before .before .before .before .before .args .v) _ (journaled (c .before .before .before .before .before .before .args .m .now) (c .before .before .before .before .before .before .args .journal .now)) (c .before .before .before .enum-told7 .given .1) _ (c .before .plus .ensures) (c .good3 .ensures)
 
 returns-8 : tie.Need-returns-8
-returns-8 c = by-flow-absolute (c .before .before .before .before .args .r .now) (c .before .before .before .before .args .q .now) (c .before .before .before .before .args .mode) (c .before .before .before .before .args .v) _ (journaled (c .before .before .before .before .args .m .now) (c .before .before .before .before .args .places .now) (c .before .before .before .before .args .words .now)) (c .before .enum-told8 .given .1) (c .good4 .ensures)
+returns-8 c = by-flow-absolute (c .before .before .before .before .args .r .now) (c .before .before .before .before .args .q .now) (c .before .before .before .before .args .mode) (c .before .before .before .before .args .v) _ (journaled (c .before .before .before .before .args .m .now) (c .before .before .before .before .args .journal .now)) (c .before .enum-told8 .given .1) (c .good4 .ensures)
 
 pub read-word32-spec : {M : Type 1} → statement M
 read-word32-spec =

@@ -23,13 +23,13 @@ same-length : tie.Need-same-length
 same-length c = (c .before .before .store .kept .0)
 
 returns : tie.Need-returns
-returns c = saved-data (c .before .before .before .before .before .before .before .before .before .before .before .before .before .before .args .r .now) (c .before .before .before .before .before .before .before .before .before .before .before .before .before .before .args .q .now) (journaled (c .before .before .before .before .before .before .before .before .before .before .before .before .before .before .args .m .now) (c .before .before .before .before .before .before .before .before .before .before .before .before .before .before .args .places .now) (c .before .before .before .before .before .before .before .before .before .before .before .before .before .before .args .words .now)) _ (c .before .before .before .before .before .before .before .before .before .before .before .sp-current .ensures) _ (c .before .before .before .before .before .before .before .before .before .before .if1 .taken) (c .before .before .store .ensures)
+returns c = saved-data (c .before .before .before .before .before .before .before .before .before .before .before .before .before .args .r .now) (c .before .before .before .before .before .before .before .before .before .before .before .before .before .args .q .now) (journaled (c .before .before .before .before .before .before .before .before .before .before .before .before .before .args .m .now) (c .before .before .before .before .before .before .before .before .before .before .before .before .before .args .journal .now)) _ (c .before .before .before .before .before .before .before .before .before .before .sp-current .ensures) _ (c .before .before .before .before .before .before .before .before .before .if1 .taken) (c .before .before .store .ensures)
 
 same-length-2 : tie.Need-same-length-2
 same-length-2 c = (c .before .before .store-pc .kept .0)
 
 returns-2 : tie.Need-returns-2
-returns-2 c = saved-frame (c .before .before .before .before .before .before .before .before .before .before .before .before .args .r .now) (c .before .before .before .before .before .before .before .before .before .before .before .before .args .q .now) (journaled (c .before .before .before .before .before .before .before .before .before .before .before .before .args .m .now) (c .before .before .before .before .before .before .before .before .before .before .before .before .args .places .now) (c .before .before .before .before .before .before .before .before .before .before .before .before .args .words .now)) _ (c .before .before .before .before .before .before .before .before .before .sp-current .ensures) _ (c .before .before .before .before .before .before .before .before .if1 .left) (c .before .before .store-pc .ensures)
+returns-2 c = saved-frame (c .before .before .before .before .before .before .before .before .before .before .before .args .r .now) (c .before .before .before .before .before .before .before .before .before .before .before .args .q .now) (journaled (c .before .before .before .before .before .before .before .before .before .before .before .args .m .now) (c .before .before .before .before .before .before .before .before .before .before .before .args .journal .now)) _ (c .before .before .before .before .before .before .before .before .sp-current .ensures) _ (c .before .before .before .before .before .before .before .if1 .left) (c .before .before .store-pc .ensures)
 
 pub save-pc-spec : {M : Type 1} → statement M
 save-pc-spec =
