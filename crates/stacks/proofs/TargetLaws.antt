@@ -3,7 +3,7 @@
 use Prim.Native.Nat.{ℕ, _^_, _<_, _≤_}
 use mathlib.Core.Path.{_≡_, refl, sym, ap}
 use mathlib.Core.Bool.{Bool, true, false, cond}
-use mathlib.Core.List.{List, []}
+use mathlib.Core.List.{[]}
 use lib.ListN.{getD}
 use borrow.Author.Tests.{eq-eqb, ne-eqb}
 use Rattle.word.specs.declared.Width.the-variants.{Word}
@@ -101,22 +101,22 @@ module _ (g : Regime) (a : ℕ) where
       go true = note-kept m (walked m) j
       go false = refl
 
-  pub probed : (x : Answer) (m : Memory) (i : List ℕ) (o : List (List ℕ)) → gave x (onlyMemory m) ≡ logging (probe g a) (onlyMemory m) → gave x (journaled m i o) ≡ logging (probe g a) (journaled m i o)
+  pub probed : (x : Answer) (m : Memory) (i : Journal) → gave x (onlyMemory m) ≡ logging (probe g a) (onlyMemory m) → gave x (journaled m i) ≡ logging (probe g a) (journaled m i)
   unfolding logging
-  probed x m i o e =
-      rw (access-kept m, journal-kept m (journaled m i o .log)) (ap (λ (y : Answer). gave y (journaled m i o)) (ap (λ (z : Gave Journaled Answer). z .out) e))
+  probed x m i e =
+      rw (access-kept m, journal-kept m (journaled m i .log)) (ap (λ (y : Answer). gave y (journaled m i)) (ap (λ (z : Gave Journaled Answer). z .out) e))
 
 -- ---- checks
 
-module _ (b : Bank) (q : Cache) (g : Regime) (a x : ℕ) (m : Memory) (i : List ℕ) (o : List (List ℕ)) (e : gave (answerOf x) (onlyMemory m) ≡ logging (probe g a) (onlyMemory m)) where
-  asked : gave (replied (cpu b q) a (answerOf x)) (journaled m i o) ≡ interpret logging (request (cpu b q) (probe g a) a) (journaled m i o)
-  asked = sym (requested (cpu b q) (answerOf x) (journaled m i o) (journaled m i o) (probe g a) a (probed g a (answerOf x) m i o e))
+module _ (b : Bank) (q : Cache) (g : Regime) (a x : ℕ) (m : Memory) (i : Journal) (e : gave (answerOf x) (onlyMemory m) ≡ logging (probe g a) (onlyMemory m)) where
+  asked : gave (replied (cpu b q) a (answerOf x)) (journaled m i) ≡ interpret logging (request (cpu b q) (probe g a) a) (journaled m i)
+  asked = sym (requested (cpu b q) (answerOf x) (journaled m i) (journaled m i) (probe g a) a (probed g a (answerOf x) m i e))
 
-  pub check-faulted : (s : Bank) → 2 ^ 32 ≤ x → s ≡ faultBank b x a → Valued b q x s (request (cpu b q) (probe g a) a) (journaled m i o) (journaled m i o)
-  check-faulted s h es = load-fault b q x a (request (cpu b q) (probe g a) a) (journaled m i o) (journaled m i o) asked s h es
+  pub check-faulted : (s : Bank) → 2 ^ 32 ≤ x → s ≡ faultBank b x a → Valued b q x s (request (cpu b q) (probe g a) a) (journaled m i) (journaled m i)
+  check-faulted s h es = load-fault b q x a (request (cpu b q) (probe g a) a) (journaled m i) (journaled m i) asked s h es
 
-  pub checked : x < 2 ^ 32 → Valued b q x b (request (cpu b q) (probe g a) a) (journaled m i o) (journaled m i o)
-  checked h = load-went b q x a (request (cpu b q) (probe g a) a) (journaled m i o) (journaled m i o) asked h
+  pub checked : x < 2 ^ 32 → Valued b q x b (request (cpu b q) (probe g a) a) (journaled m i) (journaled m i)
+  checked h = load-went b q x a (request (cpu b q) (probe g a) a) (journaled m i) (journaled m i) asked h
 
 module _ (b : Bank) (q : Cache) (a x : ℕ) (s : Bank) (t u : Journaled) where
   pub target-checked : (y z : Bool) → y ≡ isUser b → z ≡ isVirtual b → Valued b q x s (request (cpu b q) (probe (regimeFor (getD b 9 0) y z) a) a) t u → Valued b q x s (checkStore (cpu b q) a) t u

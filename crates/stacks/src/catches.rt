@@ -24,8 +24,7 @@ ghost use Rattle.exec.specs.Stack.{catchTo, catchCurrent, catch as catchOf};
 // The cache is filled up to the target, in a regime given by its numbers.
 pub fn catch_to(
     m: &mut [u8],
-    places: &mut [u32; 201],
-    words: &mut [[u8; 4]; 200],
+    journal: &mut [u64; 201],
     q: &mut [[u32; 4]; 16],
     r: &mut [u32; 17],
     stb: u32,
@@ -33,15 +32,15 @@ pub fn catch_to(
     translated: bool,
     target: u32,
 ) -> u64
-    ensures { λ x. ⌜ gave (ended (answerOf x) (now (r .exit)) (now (q .exit))) (journaled (now (m .exit)) (now (places .exit)) (now (words .exit))) ≡ interpret logging (catchTo (cpu (now (r .entry)) (now (q .entry))) (regimeFor stb user translated) target) (journaled (now (m .entry)) (now (places .entry)) (now (words .entry))) ⌝ }
+    ensures { λ x. ⌜ gave (ended (answerOf x) (now (r .exit)) (now (q .exit))) (journaled (now (m .exit)) (now (journal .exit))) ≡ interpret logging (catchTo (cpu (now (r .entry)) (now (q .entry))) (regimeFor stb user translated) target) (journaled (now (m .entry)) (now (journal .entry))) ⌝ }
 {
     let old = r[4];
-    let x = fill(m, places, words, q, r, stb, user, translated, target);
+    let x = fill(m, journal, q, r, stb, user, translated, target);
     if 0x1_0000_0000 <= x {
         return x;
     }
     let new = r[4];
-    let y = check_msp(m, places, words, q, r, stb, user, translated, old, new);
+    let y = check_msp(m, journal, q, r, stb, user, translated, old, new);
     if 0x1_0000_0000 <= y {
         return y;
     }
@@ -51,16 +50,15 @@ pub fn catch_to(
 // SP is current.
 fn catch_current(
     m: &mut [u8],
-    places: &mut [u32; 201],
-    words: &mut [[u8; 4]; 200],
+    journal: &mut [u64; 201],
     q: &mut [[u32; 4]; 16],
     r: &mut [u32; 17],
     mode: MonadicMode,
     v: u32,
 ) -> u64
-    ensures { λ x. ⌜ gave (ended (answerOf x) (now (r .exit)) (now (q .exit))) (journaled (now (m .exit)) (now (places .exit)) (now (words .exit))) ≡ interpret logging (catchCurrent (cpu (now (r .entry)) (now (q .entry))) mode v) (journaled (now (m .entry)) (now (places .entry)) (now (words .entry))) ⌝ }
+    ensures { λ x. ⌜ gave (ended (answerOf x) (now (r .exit)) (now (q .exit))) (journaled (now (m .exit)) (now (journal .exit))) ≡ interpret logging (catchCurrent (cpu (now (r .entry)) (now (q .entry))) mode v) (journaled (now (m .entry)) (now (journal .entry))) ⌝ }
 {
-    let x = stack_target(m, places, words, q, r, mode, v);
+    let x = stack_target(m, journal, q, r, mode, v);
     if 0x1_0000_0000 <= x {
         return x;
     }
@@ -69,7 +67,7 @@ fn catch_current(
         let user = is_user(r);
         let translated = is_virtual(r);
         let a = low32(x);
-        catch_to(m, places, words, q, r, stb, user, translated, a)
+        catch_to(m, journal, q, r, stb, user, translated, a)
     } else {
         r[4] = r[8];
         0
@@ -79,17 +77,16 @@ fn catch_current(
 // On the interrupt stack nothing is done.
 fn catch_held(
     m: &mut [u8],
-    places: &mut [u32; 201],
-    words: &mut [[u8; 4]; 200],
+    journal: &mut [u64; 201],
     q: &mut [[u32; 4]; 16],
     r: &mut [u32; 17],
     mode: MonadicMode,
     v: u32,
 ) -> u64
-    ensures { λ x. ⌜ gave (ended (answerOf x) (now (r .exit)) (now (q .exit))) (journaled (now (m .exit)) (now (places .exit)) (now (words .exit))) ≡ interpret logging (cond (spCurrent (now (r .entry))) (catchCurrent (cpu (now (r .entry)) (now (q .entry))) mode v) (done (cpu (now (r .entry)) (now (q .entry))))) (journaled (now (m .entry)) (now (places .entry)) (now (words .entry))) ⌝ }
+    ensures { λ x. ⌜ gave (ended (answerOf x) (now (r .exit)) (now (q .exit))) (journaled (now (m .exit)) (now (journal .exit))) ≡ interpret logging (cond (spCurrent (now (r .entry))) (catchCurrent (cpu (now (r .entry)) (now (q .entry))) mode v) (done (cpu (now (r .entry)) (now (q .entry))))) (journaled (now (m .entry)) (now (journal .entry))) ⌝ }
 {
     if sp_current(r) {
-        catch_current(m, places, words, q, r, mode, v)
+        catch_current(m, journal, q, r, mode, v)
     } else {
         0
     }
@@ -98,17 +95,16 @@ fn catch_held(
 // n is the parcels of the instruction.
 pub fn catch(
     m: &mut [u8],
-    places: &mut [u32; 201],
-    words: &mut [[u8; 4]; 200],
+    journal: &mut [u64; 201],
     q: &mut [[u32; 4]; 16],
     r: &mut [u32; 17],
     mode: MonadicMode,
     v: u32,
     n: u32,
 ) -> u64
-    ensures { λ x. ⌜ gave (ended (answerOf x) (now (r .exit)) (now (q .exit))) (journaled (now (m .exit)) (now (places .exit)) (now (words .exit))) ≡ interpret logging (catchOf (cpu (now (r .entry)) (now (q .entry))) mode v n) (journaled (now (m .entry)) (now (places .entry)) (now (words .entry))) ⌝ }
+    ensures { λ x. ⌜ gave (ended (answerOf x) (now (r .exit)) (now (q .exit))) (journaled (now (m .exit)) (now (journal .exit))) ≡ interpret logging (catchOf (cpu (now (r .entry)) (now (q .entry))) mode v n) (journaled (now (m .entry)) (now (journal .entry))) ⌝ }
 {
-    let x = catch_held(m, places, words, q, r, mode, v);
+    let x = catch_held(m, journal, q, r, mode, v);
     if 0x1_0000_0000 <= x {
         return x;
     }

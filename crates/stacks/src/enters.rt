@@ -27,16 +27,15 @@ ghost use Rattle.stacks.specs.Code.{enterClipped};
 
 // The interrupt stack is current: nothing is moved.
 fn enter_plain(
-    m: &mut [u8],
-    places: &mut [u32; 201],
-    words: &mut [[u8; 4]; 200],
+    m: &[u8],
+    journal: &[u64; 201],
     q: &[[u32; 4]; 16],
     r: &mut [u32; 17],
     target: u32,
 ) -> u64
-    ensures { λ x. ⌜ gave (ended (answerOf x) (now (r .exit)) (now (q .entry))) (journaled (now (m .exit)) (now (places .exit)) (now (words .exit))) ≡ interpret logging (enterPlain (cpu (now (r .entry)) (now (q .entry))) target) (journaled (now (m .entry)) (now (places .entry)) (now (words .entry))) ⌝ }
+    ensures { λ x. ⌜ gave (ended (answerOf x) (now (r .exit)) (now (q .entry))) (journaled (now (m .entry)) (now (journal .entry))) ≡ interpret logging (enterPlain (cpu (now (r .entry)) (now (q .entry))) target) (journaled (now (m .entry)) (now (journal .entry))) ⌝ }
 {
-    let x = check_target(m, places, words, q, r, target);
+    let x = check_target(m, journal, q, r, target);
     if 0x1_0000_0000 <= x {
         return x;
     }
@@ -46,16 +45,15 @@ fn enter_plain(
 
 // The cache is off, or empty.
 fn enter_uncached(
-    m: &mut [u8],
-    places: &mut [u32; 201],
-    words: &mut [[u8; 4]; 200],
+    m: &[u8],
+    journal: &[u64; 201],
     q: &[[u32; 4]; 16],
     r: &mut [u32; 17],
     target: u32,
 ) -> u64
-    ensures { λ x. ⌜ gave (ended (answerOf x) (now (r .exit)) (now (q .entry))) (journaled (now (m .exit)) (now (places .exit)) (now (words .exit))) ≡ interpret logging (enterUncached (cpu (now (r .entry)) (now (q .entry))) target) (journaled (now (m .entry)) (now (places .entry)) (now (words .entry))) ⌝ }
+    ensures { λ x. ⌜ gave (ended (answerOf x) (now (r .exit)) (now (q .entry))) (journaled (now (m .entry)) (now (journal .entry))) ≡ interpret logging (enterUncached (cpu (now (r .entry)) (now (q .entry))) target) (journaled (now (m .entry)) (now (journal .entry))) ⌝ }
 {
-    let x = check_target(m, places, words, q, r, target);
+    let x = check_target(m, journal, q, r, target);
     if 0x1_0000_0000 <= x {
         return x;
     }
@@ -67,19 +65,18 @@ fn enter_uncached(
 // All is flushed.
 fn enter_empty(
     m: &mut [u8],
-    places: &mut [u32; 201],
-    words: &mut [[u8; 4]; 200],
+    journal: &mut [u64; 201],
     q: &[[u32; 4]; 16],
     r: &mut [u32; 17],
     target: u32,
 ) -> u64
-    ensures { λ x. ⌜ gave (ended (answerOf x) (now (r .exit)) (now (q .entry))) (journaled (now (m .exit)) (now (places .exit)) (now (words .exit))) ≡ interpret logging (enterEmpty (cpu (now (r .entry)) (now (q .entry))) target) (journaled (now (m .entry)) (now (places .entry)) (now (words .entry))) ⌝ }
+    ensures { λ x. ⌜ gave (ended (answerOf x) (now (r .exit)) (now (q .entry))) (journaled (now (m .exit)) (now (journal .exit))) ≡ interpret logging (enterEmpty (cpu (now (r .entry)) (now (q .entry))) target) (journaled (now (m .entry)) (now (journal .entry))) ⌝ }
 {
-    let x = flush(m, places, words, q, r, true, target);
+    let x = flush(m, journal, q, r, true, target);
     if 0x1_0000_0000 <= x {
         return x;
     }
-    enter_uncached(m, places, words, q, r, target)
+    enter_uncached(m, journal, q, r, target)
 }
 
 // MSP after ENTER by a stack offset: at most the cache's size above the target.
@@ -96,25 +93,24 @@ fn clipped(old: u32, msp: u32, target: u32) -> u32
 
 // Both pointers are checked, then set; old is MSP before the flush.
 fn enter_clipped(
-    m: &mut [u8],
-    places: &mut [u32; 201],
-    words: &mut [[u8; 4]; 200],
+    m: &[u8],
+    journal: &[u64; 201],
     q: &[[u32; 4]; 16],
     r: &mut [u32; 17],
     target: u32,
     old: u32,
 ) -> u64
-    ensures { λ x. ⌜ gave (ended (answerOf x) (now (r .exit)) (now (q .entry))) (journaled (now (m .exit)) (now (places .exit)) (now (words .exit))) ≡ interpret logging (enterClipped (cpu (now (r .entry)) (now (q .entry))) target old) (journaled (now (m .entry)) (now (places .entry)) (now (words .entry))) ⌝ }
+    ensures { λ x. ⌜ gave (ended (answerOf x) (now (r .exit)) (now (q .entry))) (journaled (now (m .entry)) (now (journal .entry))) ≡ interpret logging (enterClipped (cpu (now (r .entry)) (now (q .entry))) target old) (journaled (now (m .entry)) (now (journal .entry))) ⌝ }
 {
     let new = clipped(old, r[4], target);
-    let x = check_target(m, places, words, q, r, target);
+    let x = check_target(m, journal, q, r, target);
     if 0x1_0000_0000 <= x {
         return x;
     }
     let stb = r[9];
     let user = is_user(r);
     let translated = is_virtual(r);
-    let y = check_msp(m, places, words, q, r, stb, user, translated, old, new);
+    let y = check_msp(m, journal, q, r, stb, user, translated, old, new);
     if 0x1_0000_0000 <= y {
         return y;
     }
@@ -126,67 +122,64 @@ fn enter_clipped(
 // Only what is too much is flushed.
 fn enter_offset(
     m: &mut [u8],
-    places: &mut [u32; 201],
-    words: &mut [[u8; 4]; 200],
+    journal: &mut [u64; 201],
     q: &[[u32; 4]; 16],
     r: &mut [u32; 17],
     target: u32,
 ) -> u64
-    ensures { λ x. ⌜ gave (ended (answerOf x) (now (r .exit)) (now (q .entry))) (journaled (now (m .exit)) (now (places .exit)) (now (words .exit))) ≡ interpret logging (enterOffset (cpu (now (r .entry)) (now (q .entry))) target) (journaled (now (m .entry)) (now (places .entry)) (now (words .entry))) ⌝ }
+    ensures { λ x. ⌜ gave (ended (answerOf x) (now (r .exit)) (now (q .entry))) (journaled (now (m .exit)) (now (journal .exit))) ≡ interpret logging (enterOffset (cpu (now (r .entry)) (now (q .entry))) target) (journaled (now (m .entry)) (now (journal .entry))) ⌝ }
 {
     let old = r[4];
-    let x = flush(m, places, words, q, r, false, target);
+    let x = flush(m, journal, q, r, false, target);
     if 0x1_0000_0000 <= x {
         return x;
     }
-    enter_clipped(m, places, words, q, r, target, old)
+    enter_clipped(m, journal, q, r, target, old)
 }
 
 fn enter_at(
     m: &mut [u8],
-    places: &mut [u32; 201],
-    words: &mut [[u8; 4]; 200],
+    journal: &mut [u64; 201],
     q: &[[u32; 4]; 16],
     r: &mut [u32; 17],
     mode: MonadicMode,
     target: u32,
 ) -> u64
-    ensures { λ x. ⌜ gave (ended (answerOf x) (now (r .exit)) (now (q .entry))) (journaled (now (m .exit)) (now (places .exit)) (now (words .exit))) ≡ interpret logging (enterAt (cpu (now (r .entry)) (now (q .entry))) mode target) (journaled (now (m .entry)) (now (places .entry)) (now (words .entry))) ⌝ }
+    ensures { λ x. ⌜ gave (ended (answerOf x) (now (r .exit)) (now (q .entry))) (journaled (now (m .exit)) (now (journal .exit))) ≡ interpret logging (enterAt (cpu (now (r .entry)) (now (q .entry))) mode target) (journaled (now (m .entry)) (now (journal .entry))) ⌝ }
 {
     if sp_current(r) {
         if cache_on(r) {
             if is_stack(mode) {
-                enter_offset(m, places, words, q, r, target)
+                enter_offset(m, journal, q, r, target)
             } else {
-                enter_empty(m, places, words, q, r, target)
+                enter_empty(m, journal, q, r, target)
             }
         } else {
-            enter_uncached(m, places, words, q, r, target)
+            enter_uncached(m, journal, q, r, target)
         }
     } else {
-        enter_plain(m, places, words, q, r, target)
+        enter_plain(m, journal, q, r, target)
     }
 }
 
 // n is the parcels of the instruction.
 pub fn enter(
     m: &mut [u8],
-    places: &mut [u32; 201],
-    words: &mut [[u8; 4]; 200],
+    journal: &mut [u64; 201],
     q: &[[u32; 4]; 16],
     r: &mut [u32; 17],
     mode: MonadicMode,
     v: u32,
     n: u32,
 ) -> u64
-    ensures { λ x. ⌜ gave (ended (answerOf x) (now (r .exit)) (now (q .entry))) (journaled (now (m .exit)) (now (places .exit)) (now (words .exit))) ≡ interpret logging (enterOf (cpu (now (r .entry)) (now (q .entry))) mode v n) (journaled (now (m .entry)) (now (places .entry)) (now (words .entry))) ⌝ }
+    ensures { λ x. ⌜ gave (ended (answerOf x) (now (r .exit)) (now (q .entry))) (journaled (now (m .exit)) (now (journal .exit))) ≡ interpret logging (enterOf (cpu (now (r .entry)) (now (q .entry))) mode v n) (journaled (now (m .entry)) (now (journal .entry))) ⌝ }
 {
-    let x = stack_target(m, places, words, q, r, mode, v);
+    let x = stack_target(m, journal, q, r, mode, v);
     if 0x1_0000_0000 <= x {
         return x;
     }
     let target = low32(x) / 16 * 16;
-    let y = enter_at(m, places, words, q, r, mode, target);
+    let y = enter_at(m, journal, q, r, mode, target);
     if 0x1_0000_0000 <= y {
         return y;
     }

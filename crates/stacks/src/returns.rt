@@ -20,19 +20,18 @@ ghost use Rattle.stacks.specs.Code.{cretCaught, cretFrom, cretAfter};
 // The cache filled to MSP t, in the regime that the PSW p restores, and MSP left there.
 fn cret_caught(
     m: &mut [u8],
-    places: &mut [u32; 201],
-    words: &mut [[u8; 4]; 200],
+    journal: &mut [u64; 201],
     q: &mut [[u32; 4]; 16],
     r: &mut [u32; 17],
     t: u32,
     p: u32,
 ) -> u64
-    ensures { λ x. ⌜ gave (ended (answerOf x) (now (r .exit)) (now (q .exit))) (journaled (now (m .exit)) (now (places .exit)) (now (words .exit))) ≡ interpret logging (cretCaught (cpu (now (r .entry)) (now (q .entry))) t p) (journaled (now (m .entry)) (now (places .entry)) (now (words .entry))) ⌝ }
+    ensures { λ x. ⌜ gave (ended (answerOf x) (now (r .exit)) (now (q .exit))) (journaled (now (m .exit)) (now (journal .exit))) ≡ interpret logging (cretCaught (cpu (now (r .entry)) (now (q .entry))) t p) (journaled (now (m .entry)) (now (journal .entry))) ⌝ }
 {
     let stb = r[9];
     let user = is_user(r);
     let translated = bit(p, 16);
-    let x = catch_to(m, places, words, q, r, stb, user, translated, t);
+    let x = catch_to(m, journal, q, r, stb, user, translated, t);
     if 0x1_0000_0000 <= x {
         return x;
     }
@@ -43,19 +42,18 @@ fn cret_caught(
 // The cache after the frame's words w of MSP and p of PSW.
 fn cret_fill(
     m: &mut [u8],
-    places: &mut [u32; 201],
-    words: &mut [[u8; 4]; 200],
+    journal: &mut [u64; 201],
     q: &mut [[u32; 4]; 16],
     r: &mut [u32; 17],
     w: u32,
     p: u32,
 ) -> u64
-    ensures { λ x. ⌜ gave (ended (answerOf x) (now (r .exit)) (now (q .exit))) (journaled (now (m .exit)) (now (places .exit)) (now (words .exit))) ≡ interpret logging (cretFill (cpu (now (r .entry)) (now (q .entry))) w p) (journaled (now (m .entry)) (now (places .entry)) (now (words .entry))) ⌝ }
+    ensures { λ x. ⌜ gave (ended (answerOf x) (now (r .exit)) (now (q .exit))) (journaled (now (m .exit)) (now (journal .exit))) ≡ interpret logging (cretFill (cpu (now (r .entry)) (now (q .entry))) w p) (journaled (now (m .entry)) (now (journal .entry))) ⌝ }
 {
     let t = kept(4, w);
     if bit(p, 9) {
         if bit(r[0], 18) {
-            cret_caught(m, places, words, q, r, t, p)
+            cret_caught(m, journal, q, r, t, p)
         } else {
             0
         }
@@ -68,8 +66,7 @@ fn cret_fill(
 // All but the frame's words: s of SP, w of MSP, a of PC, p of PSW.
 fn cret_from(
     m: &mut [u8],
-    places: &mut [u32; 201],
-    words: &mut [[u8; 4]; 200],
+    journal: &mut [u64; 201],
     q: &mut [[u32; 4]; 16],
     r: &mut [u32; 17],
     s: u32,
@@ -77,12 +74,12 @@ fn cret_from(
     a: u32,
     p: u32,
 ) -> u64
-    ensures { λ x. ⌜ gave (ended (answerOf x) (now (r .exit)) (now (q .exit))) (journaled (now (m .exit)) (now (places .exit)) (now (words .exit))) ≡ interpret logging (cretFrom (cpu (now (r .entry)) (now (q .entry))) s w a p) (journaled (now (m .entry)) (now (places .entry)) (now (words .entry))) ⌝ }
+    ensures { λ x. ⌜ gave (ended (answerOf x) (now (r .exit)) (now (q .exit))) (journaled (now (m .exit)) (now (journal .exit))) ≡ interpret logging (cretFrom (cpu (now (r .entry)) (now (q .entry))) s w a p) (journaled (now (m .entry)) (now (journal .entry))) ⌝ }
 {
     let k = kept(8, s);
     r[8] = k;
     r[4] = k;
-    let x = cret_fill(m, places, words, q, r, w, p);
+    let x = cret_fill(m, journal, q, r, w, p);
     if 0x1_0000_0000 <= x {
         return x;
     }
@@ -93,51 +90,49 @@ fn cret_from(
 // After the frame's words of SP and MSP.
 fn cret_after(
     m: &mut [u8],
-    places: &mut [u32; 201],
-    words: &mut [[u8; 4]; 200],
+    journal: &mut [u64; 201],
     q: &mut [[u32; 4]; 16],
     r: &mut [u32; 17],
     s: u32,
     w: u32,
 ) -> u64
-    ensures { λ x. ⌜ gave (ended (answerOf x) (now (r .exit)) (now (q .exit))) (journaled (now (m .exit)) (now (places .exit)) (now (words .exit))) ≡ interpret logging (cretAfter (cpu (now (r .entry)) (now (q .entry))) s w) (journaled (now (m .entry)) (now (places .entry)) (now (words .entry))) ⌝ }
+    ensures { λ x. ⌜ gave (ended (answerOf x) (now (r .exit)) (now (q .exit))) (journaled (now (m .exit)) (now (journal .exit))) ≡ interpret logging (cretAfter (cpu (now (r .entry)) (now (q .entry))) s w) (journaled (now (m .entry)) (now (journal .entry))) ⌝ }
 {
     let i = plus(r[3], 8);
-    let x = read_frame(m, places, words, r, i);
+    let x = read_frame(m, journal, r, i);
     if 0x1_0000_0000 <= x {
         return 0x1_0000_0000;
     }
     let j = plus(r[3], 12);
-    let y = read_frame(m, places, words, r, j);
+    let y = read_frame(m, journal, r, j);
     if 0x1_0000_0000 <= y {
         return 0x1_0000_0000;
     }
     let a = low32(x);
     let p = low32(y);
-    cret_from(m, places, words, q, r, s, w, a, p)
+    cret_from(m, journal, q, r, s, w, a, p)
 }
 
 // At kernel level; at user level it is exception 5.
 pub fn cret(
     m: &mut [u8],
-    places: &mut [u32; 201],
-    words: &mut [[u8; 4]; 200],
+    journal: &mut [u64; 201],
     q: &mut [[u32; 4]; 16],
     r: &mut [u32; 17],
 ) -> u64
-    ensures { λ x. ⌜ gave (ended (answerOf x) (now (r .exit)) (now (q .exit))) (journaled (now (m .exit)) (now (places .exit)) (now (words .exit))) ≡ interpret logging (cretOf (cpu (now (r .entry)) (now (q .entry)))) (journaled (now (m .entry)) (now (places .entry)) (now (words .entry))) ⌝ }
+    ensures { λ x. ⌜ gave (ended (answerOf x) (now (r .exit)) (now (q .exit))) (journaled (now (m .exit)) (now (journal .exit))) ≡ interpret logging (cretOf (cpu (now (r .entry)) (now (q .entry)))) (journaled (now (m .entry)) (now (journal .entry))) ⌝ }
 {
     let i = r[3];
-    let x = read_frame(m, places, words, r, i);
+    let x = read_frame(m, journal, r, i);
     if 0x1_0000_0000 <= x {
         return 0x1_0000_0000;
     }
     let j = plus(r[3], 4);
-    let y = read_frame(m, places, words, r, j);
+    let y = read_frame(m, journal, r, j);
     if 0x1_0000_0000 <= y {
         return 0x1_0000_0000;
     }
     let s = low32(x);
     let w = low32(y);
-    cret_after(m, places, words, q, r, s, w)
+    cret_after(m, journal, q, r, s, w)
 }

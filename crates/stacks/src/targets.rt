@@ -23,19 +23,18 @@ ghost use Rattle.exec.specs.Stack.{stackTarget, checkMsp};
 // The target of ENTER or CATCH.
 pub fn stack_target(
     m: &mut [u8],
-    places: &mut [u32; 201],
-    words: &mut [[u8; 4]; 200],
+    journal: &mut [u64; 201],
     q: &[[u32; 4]; 16],
     r: &mut [u32; 17],
     mode: MonadicMode,
     v: u32,
 ) -> u64
-    ensures { λ x. ⌜ (gave (valued (answerOf x) (now (r .exit)) (now (q .entry))) (journaled (now (m .exit)) (now (places .exit)) (now (words .exit))) ≡ interpret logging (stackTarget (cpu (now (r .entry)) (now (q .entry))) mode v) (journaled (now (m .entry)) (now (places .entry)) (now (words .entry)))) × (x < 2 ^ 32 → now (r .exit) ≡ now (r .entry)) ⌝ }
+    ensures { λ x. ⌜ (gave (valued (answerOf x) (now (r .exit)) (now (q .entry))) (journaled (now (m .exit)) (now (journal .exit))) ≡ interpret logging (stackTarget (cpu (now (r .entry)) (now (q .entry))) mode v) (journaled (now (m .entry)) (now (journal .entry)))) × (x < 2 ^ 32 → now (r .exit) ≡ now (r .entry)) ⌝ }
 {
     match mode {
-        MonadicMode::WordAbsolute => load(m, places, words, q, r, Width::Word, v),
+        MonadicMode::WordAbsolute => load(m, journal, q, r, Width::Word, v),
         MonadicMode::WordStack => good(stack_address(r, v)),
-        MonadicMode::WordIndirect => load(m, places, words, q, r, Width::Word, stack_address(r, v)),
+        MonadicMode::WordIndirect => load(m, journal, q, r, Width::Word, stack_address(r, v)),
         MonadicMode::WordImmediate => good(v),
         MonadicMode::FlowAbsoluteIndirect => good(v),
         MonadicMode::FlowStackIndirect => good(v),
@@ -46,9 +45,8 @@ pub fn stack_target(
 
 // Whether stores at a are valid, in a regime given by its numbers.
 fn check(
-    m: &mut [u8],
-    places: &mut [u32; 201],
-    words: &mut [[u8; 4]; 200],
+    m: &[u8],
+    journal: &[u64; 201],
     q: &[[u32; 4]; 16],
     r: &mut [u32; 17],
     stb: u32,
@@ -56,7 +54,7 @@ fn check(
     translated: bool,
     a: u32,
 ) -> u64
-    ensures { λ x. ⌜ (gave (valued (answerOf x) (now (r .exit)) (now (q .entry))) (journaled (now (m .exit)) (now (places .exit)) (now (words .exit))) ≡ interpret logging (request (cpu (now (r .entry)) (now (q .entry))) (probes (regimeFor stb user translated) a) a) (journaled (now (m .entry)) (now (places .entry)) (now (words .entry)))) × (x < 2 ^ 32 → now (r .exit) ≡ now (r .entry)) ⌝ }
+    ensures { λ x. ⌜ (gave (valued (answerOf x) (now (r .exit)) (now (q .entry))) (journaled (now (m .entry)) (now (journal .entry))) ≡ interpret logging (request (cpu (now (r .entry)) (now (q .entry))) (probes (regimeFor stb user translated) a) a) (journaled (now (m .entry)) (now (journal .entry)))) × (x < 2 ^ 32 → now (r .exit) ≡ now (r .entry)) ⌝ }
 {
     let x = handler::accesses::probe(m, stb, user, translated, a);
     if 0x1_0000_0000 <= x {
@@ -68,26 +66,24 @@ fn check(
 
 // The same at the current level.
 pub fn check_target(
-    m: &mut [u8],
-    places: &mut [u32; 201],
-    words: &mut [[u8; 4]; 200],
+    m: &[u8],
+    journal: &[u64; 201],
     q: &[[u32; 4]; 16],
     r: &mut [u32; 17],
     a: u32,
 ) -> u64
-    ensures { λ x. ⌜ (gave (valued (answerOf x) (now (r .exit)) (now (q .entry))) (journaled (now (m .exit)) (now (places .exit)) (now (words .exit))) ≡ interpret logging (checkStore (cpu (now (r .entry)) (now (q .entry))) a) (journaled (now (m .entry)) (now (places .entry)) (now (words .entry)))) × (x < 2 ^ 32 → now (r .exit) ≡ now (r .entry)) ⌝ }
+    ensures { λ x. ⌜ (gave (valued (answerOf x) (now (r .exit)) (now (q .entry))) (journaled (now (m .entry)) (now (journal .entry))) ≡ interpret logging (checkStore (cpu (now (r .entry)) (now (q .entry))) a) (journaled (now (m .entry)) (now (journal .entry)))) × (x < 2 ^ 32 → now (r .exit) ≡ now (r .entry)) ⌝ }
 {
     let stb = r[9];
     let user = is_user(r);
     let translated = is_virtual(r);
-    check(m, places, words, q, r, stb, user, translated, a)
+    check(m, journal, q, r, stb, user, translated, a)
 }
 
 // MSP is checked if it is updated.
 pub fn check_msp(
-    m: &mut [u8],
-    places: &mut [u32; 201],
-    words: &mut [[u8; 4]; 200],
+    m: &[u8],
+    journal: &[u64; 201],
     q: &[[u32; 4]; 16],
     r: &mut [u32; 17],
     stb: u32,
@@ -96,11 +92,11 @@ pub fn check_msp(
     old: u32,
     new: u32,
 ) -> u64
-    ensures { λ x. ⌜ (gave (valued (answerOf x) (now (r .exit)) (now (q .entry))) (journaled (now (m .exit)) (now (places .exit)) (now (words .exit))) ≡ interpret logging (checkMsp (cpu (now (r .entry)) (now (q .entry))) (regimeFor stb user translated) old new) (journaled (now (m .entry)) (now (places .entry)) (now (words .entry)))) × (x < 2 ^ 32 → now (r .exit) ≡ now (r .entry)) ⌝ }
+    ensures { λ x. ⌜ (gave (valued (answerOf x) (now (r .exit)) (now (q .entry))) (journaled (now (m .entry)) (now (journal .entry))) ≡ interpret logging (checkMsp (cpu (now (r .entry)) (now (q .entry))) (regimeFor stb user translated) old new) (journaled (now (m .entry)) (now (journal .entry)))) × (x < 2 ^ 32 → now (r .exit) ≡ now (r .entry)) ⌝ }
 {
     if new == old {
         good(0)
     } else {
-        check(m, places, words, q, r, stb, user, translated, new)
+        check(m, journal, q, r, stb, user, translated, new)
     }
 }

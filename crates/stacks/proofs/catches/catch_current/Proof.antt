@@ -12,7 +12,7 @@ same-length : tie.Need-same-length
 same-length c = (c .before .before .before .stack-target .kept .0)
 
 returns : tie.Need-returns
-returns c = target-stopped (c .before .before .before .before .before .before .before .before .before .before .args .r .now) (c .before .before .before .before .before .before .before .before .before .before .args .q .now) (c .before .before .before .before .before .before .before .before .before .before .args .mode) (c .before .before .before .before .before .before .before .before .before .before .args .v) _ _ (journaled (c .before .before .before .before .before .before .before .before .before .before .args .m .now) (c .before .before .before .before .before .before .before .before .before .before .args .places .now) (c .before .before .before .before .before .before .before .before .before .before .args .words .now)) _ (c .before .before .before .stack-target .ensures) (c .if1 .taken)
+returns c = target-stopped (c .before .before .before .before .before .before .before .before .before .args .r .now) (c .before .before .before .before .before .before .before .before .before .args .q .now) (c .before .before .before .before .before .before .before .before .before .args .mode) (c .before .before .before .before .before .before .before .before .before .args .v) _ _ (journaled (c .before .before .before .before .before .before .before .before .before .args .m .now) (c .before .before .before .before .before .before .before .before .before .args .journal .now)) _ (c .before .before .before .stack-target .ensures) (c .if1 .taken)
 
 cache-on-requires : tie.Need-cache-on-requires
 cache-on-requires c κs = search needs
@@ -39,16 +39,16 @@ element-write-r : tie.Need-element-write-r
 element-write-r c = search needs
 
 same-length-2 : tie.Need-same-length-2
-same-length-2 c = (c .before .before .catch-to .kept .0) ∙ (c .before .before .before .before .before .before .before .before .before .before .before .before .before .before .before .before .before .before .before .before .stack-target .kept .0)
+same-length-2 c = (c .before .before .catch-to .kept .0) ∙ (c .before .before .before .before .before .before .before .before .before .before .before .before .before .before .before .before .before .before .before .stack-target .kept .0)
 
 returns-2 : tie.Need-returns-2
-returns-2 c = current-caught (c .before .before .before .before .before .before .before .before .before .before .before .before .before .before .before .before .before .before .before .before .before .before .before .before .before .before .before .args .r .now) (c .before .before .before .before .before .before .before .before .before .before .before .before .before .before .before .before .before .before .before .before .before .before .before .before .before .before .before .args .q .now) (c .before .before .before .before .before .before .before .before .before .before .before .before .before .before .before .before .before .before .before .before .before .before .before .before .before .before .before .args .mode) (c .before .before .before .before .before .before .before .before .before .before .before .before .before .before .before .before .before .before .before .before .before .before .before .before .before .before .before .args .v) _ _ (journaled (c .before .before .before .before .before .before .before .before .before .before .before .before .before .before .before .before .before .before .before .before .before .before .before .before .before .before .before .args .m .now) (c .before .before .before .before .before .before .before .before .before .before .before .before .before .before .before .before .before .before .before .before .before .before .before .before .before .before .before .args .places .now) (c .before .before .before .before .before .before .before .before .before .before .before .before .before .before .before .before .before .before .before .before .before .before .before .before .before .before .before .args .words .now)) _ (c .before .before .before .before .before .before .before .before .before .before .before .before .before .before .before .before .before .before .before .before .stack-target .ensures) (c .before .before .before .before .before .before .before .before .before .before .before .before .before .before .before .before .before .if1 .left) _ (c .before .before .before .before .before .before .before .before .before .before .before .before .before .before .before .cache-on .ensures) (c .before .before .before .before .before .before .before .before .before .before .before .before .before .before .if2 .taken) _ _ (c .before .before .before .before .before .before .before .before .before .before .before .is-user .ensures) (c .before .before .before .before .before .before .before .before .before .is-virtual .ensures) _ (c .before .before .before .before .before .before .before .before .low32 .ensures) _ (c .before .before .catch-to .ensures)
+returns-2 c = current-caught (c .before .before .before .before .before .before .before .before .before .before .before .before .before .before .before .before .before .before .before .before .before .before .before .before .before .args .r .now) (c .before .before .before .before .before .before .before .before .before .before .before .before .before .before .before .before .before .before .before .before .before .before .before .before .before .args .q .now) (c .before .before .before .before .before .before .before .before .before .before .before .before .before .before .before .before .before .before .before .before .before .before .before .before .before .args .mode) (c .before .before .before .before .before .before .before .before .before .before .before .before .before .before .before .before .before .before .before .before .before .before .before .before .before .args .v) _ _ (journaled (c .before .before .before .before .before .before .before .before .before .before .before .before .before .before .before .before .before .before .before .before .before .before .before .before .before .args .m .now) (c .before .before .before .before .before .before .before .before .before .before .before .before .before .before .before .before .before .before .before .before .before .before .before .before .before .args .journal .now)) _ (c .before .before .before .before .before .before .before .before .before .before .before .before .before .before .before .before .before .before .before .stack-target .ensures) (c .before .before .before .before .before .before .before .before .before .before .before .before .before .before .before .before .if1 .left) _ (c .before .before .before .before .before .before .before .before .before .before .before .before .before .before .cache-on .ensures) (c .before .before .before .before .before .before .before .before .before .before .before .before .before .if2 .taken) _ _ (c .before .before .before .before .before .before .before .before .before .before .is-user .ensures) (c .before .before .before .before .before .before .before .before .is-virtual .ensures) _ (c .before .before .before .before .before .before .before .low32 .ensures) _ (c .before .before .catch-to .ensures)
 
 same-length-3 : tie.Need-same-length-3
 same-length-3 c = (c .before .before .before .before .before .before .before .stack-target .kept .0)
 
 returns-3 : tie.Need-returns-3
-returns-3 c = current-left (c .before .before .before .before .before .before .before .before .before .before .before .before .before .before .args .r .now) (c .before .before .before .before .before .before .before .before .before .before .before .before .before .before .args .q .now) (c .before .before .before .before .before .before .before .before .before .before .before .before .before .before .args .mode) (c .before .before .before .before .before .before .before .before .before .before .before .before .before .before .args .v) _ _ (journaled (c .before .before .before .before .before .before .before .before .before .before .before .before .before .before .args .m .now) (c .before .before .before .before .before .before .before .before .before .before .before .before .before .before .args .places .now) (c .before .before .before .before .before .before .before .before .before .before .before .before .before .before .args .words .now)) _ (c .before .before .before .before .before .before .before .stack-target .ensures) (c .before .before .before .before .if1 .left) _ (c .before .before .cache-on .ensures) (c .before .if2 .left)
+returns-3 c = current-left (c .before .before .before .before .before .before .before .before .before .before .before .before .before .args .r .now) (c .before .before .before .before .before .before .before .before .before .before .before .before .before .args .q .now) (c .before .before .before .before .before .before .before .before .before .before .before .before .before .args .mode) (c .before .before .before .before .before .before .before .before .before .before .before .before .before .args .v) _ _ (journaled (c .before .before .before .before .before .before .before .before .before .before .before .before .before .args .m .now) (c .before .before .before .before .before .before .before .before .before .before .before .before .before .args .journal .now)) _ (c .before .before .before .before .before .before .before .stack-target .ensures) (c .before .before .before .before .if1 .left) _ (c .before .before .cache-on .ensures) (c .before .if2 .left)
 
 pub catch-current-spec : {M : Type 1} → statement M
 catch-current-spec =

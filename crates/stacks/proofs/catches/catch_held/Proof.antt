@@ -14,10 +14,10 @@ same-length : tie.Need-same-length
 same-length c = (c .before .before .catch-current .kept .0)
 
 returns : tie.Need-returns
-returns c = held-current (c .before .before .before .before .before .before .before .before .before .before .before .before .args .r .now) (c .before .before .before .before .before .before .before .before .before .before .before .before .args .q .now) (c .before .before .before .before .before .before .before .before .before .before .before .before .args .mode) (c .before .before .before .before .before .before .before .before .before .before .before .before .args .v) (journaled (c .before .before .before .before .before .before .before .before .before .before .before .before .args .m .now) (c .before .before .before .before .before .before .before .before .before .before .before .before .args .places .now) (c .before .before .before .before .before .before .before .before .before .before .before .before .args .words .now)) _ (c .before .before .before .before .before .before .before .before .before .sp-current .ensures) (c .before .before .before .before .before .before .before .before .if1 .taken) _ (c .before .before .catch-current .ensures)
+returns c = held-current (c .before .before .before .before .before .before .before .before .before .before .before .args .r .now) (c .before .before .before .before .before .before .before .before .before .before .before .args .q .now) (c .before .before .before .before .before .before .before .before .before .before .before .args .mode) (c .before .before .before .before .before .before .before .before .before .before .before .args .v) (journaled (c .before .before .before .before .before .before .before .before .before .before .before .args .m .now) (c .before .before .before .before .before .before .before .before .before .before .before .args .journal .now)) _ (c .before .before .before .before .before .before .before .before .sp-current .ensures) (c .before .before .before .before .before .before .before .if1 .taken) _ (c .before .before .catch-current .ensures)
 
 returns-2 : tie.Need-returns-2
-returns-2 c = held-nothing (c .before .before .before .before .args .r .now) (c .before .before .before .before .args .q .now) (c .before .before .before .before .args .mode) (c .before .before .before .before .args .v) (journaled (c .before .before .before .before .args .m .now) (c .before .before .before .before .args .places .now) (c .before .before .before .before .args .words .now)) _ (c .before .sp-current .ensures) (c .if1 .left)
+returns-2 c = held-nothing (c .before .before .before .before .args .r .now) (c .before .before .before .before .args .q .now) (c .before .before .before .before .args .mode) (c .before .before .before .before .args .v) (journaled (c .before .before .before .before .args .m .now) (c .before .before .before .before .args .journal .now)) _ (c .before .sp-current .ensures) (c .if1 .left)
 
 pub catch-held-spec : {M : Type 1} → statement M
 catch-held-spec =

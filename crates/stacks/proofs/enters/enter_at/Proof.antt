@@ -29,25 +29,25 @@ same-length : tie.Need-same-length
 same-length c = (c .before .before .enter-offset .kept .0)
 
 returns : tie.Need-returns
-returns c = at-offset (c .before .before .before .before .before .before .before .before .before .before .before .before .before .before .before .before .args .r .now) (c .before .before .before .before .before .before .before .before .before .before .before .before .before .before .before .before .args .q .now) (c .before .before .before .before .before .before .before .before .before .before .before .before .before .before .before .before .args .mode) (c .before .before .before .before .before .before .before .before .before .before .before .before .before .before .before .before .args .target) (journaled (c .before .before .before .before .before .before .before .before .before .before .before .before .before .before .before .before .args .m .now) (c .before .before .before .before .before .before .before .before .before .before .before .before .before .before .before .before .args .places .now) (c .before .before .before .before .before .before .before .before .before .before .before .before .before .before .before .before .args .words .now)) _ _ (c .before .before .before .before .before .before .before .before .before .before .before .before .before .sp-current .ensures) (c .before .before .before .before .before .before .before .before .before .before .before .before .if1 .taken) _ (c .before .before .before .before .before .before .before .before .before .before .cache-on .ensures) (c .before .before .before .before .before .before .before .before .before .if2 .taken) _ (c .before .before .before .before .before .before .before .before .is-stack .ensures) (c .before .before .before .before .before .before .before .if3 .taken) (c .before .before .enter-offset .ensures)
+returns c = at-offset (c .before .before .before .before .before .before .before .before .before .before .before .before .before .before .before .args .r .now) (c .before .before .before .before .before .before .before .before .before .before .before .before .before .before .before .args .q .now) (c .before .before .before .before .before .before .before .before .before .before .before .before .before .before .before .args .mode) (c .before .before .before .before .before .before .before .before .before .before .before .before .before .before .before .args .target) (journaled (c .before .before .before .before .before .before .before .before .before .before .before .before .before .before .before .args .m .now) (c .before .before .before .before .before .before .before .before .before .before .before .before .before .before .before .args .journal .now)) _ _ (c .before .before .before .before .before .before .before .before .before .before .before .before .sp-current .ensures) (c .before .before .before .before .before .before .before .before .before .before .before .if1 .taken) _ (c .before .before .before .before .before .before .before .before .before .cache-on .ensures) (c .before .before .before .before .before .before .before .before .if2 .taken) _ (c .before .before .before .before .before .before .before .is-stack .ensures) (c .before .before .before .before .before .before .if3 .taken) (c .before .before .enter-offset .ensures)
 
 same-length-2 : tie.Need-same-length-2
 same-length-2 c = (c .before .before .enter-empty .kept .0)
 
 returns-2 : tie.Need-returns-2
-returns-2 c = at-empty (c .before .before .before .before .before .before .before .before .before .before .before .before .before .before .before .before .args .r .now) (c .before .before .before .before .before .before .before .before .before .before .before .before .before .before .before .before .args .q .now) (c .before .before .before .before .before .before .before .before .before .before .before .before .before .before .before .before .args .mode) (c .before .before .before .before .before .before .before .before .before .before .before .before .before .before .before .before .args .target) (journaled (c .before .before .before .before .before .before .before .before .before .before .before .before .before .before .before .before .args .m .now) (c .before .before .before .before .before .before .before .before .before .before .before .before .before .before .before .before .args .places .now) (c .before .before .before .before .before .before .before .before .before .before .before .before .before .before .before .before .args .words .now)) _ _ (c .before .before .before .before .before .before .before .before .before .before .before .before .before .sp-current .ensures) (c .before .before .before .before .before .before .before .before .before .before .before .before .if1 .taken) _ (c .before .before .before .before .before .before .before .before .before .before .cache-on .ensures) (c .before .before .before .before .before .before .before .before .before .if2 .taken) _ (c .before .before .before .before .before .before .before .before .is-stack .ensures) (c .before .before .before .before .before .before .before .if3 .left) (c .before .before .enter-empty .ensures)
+returns-2 c = at-empty (c .before .before .before .before .before .before .before .before .before .before .before .before .before .before .before .args .r .now) (c .before .before .before .before .before .before .before .before .before .before .before .before .before .before .before .args .q .now) (c .before .before .before .before .before .before .before .before .before .before .before .before .before .before .before .args .mode) (c .before .before .before .before .before .before .before .before .before .before .before .before .before .before .before .args .target) (journaled (c .before .before .before .before .before .before .before .before .before .before .before .before .before .before .before .args .m .now) (c .before .before .before .before .before .before .before .before .before .before .before .before .before .before .before .args .journal .now)) _ _ (c .before .before .before .before .before .before .before .before .before .before .before .before .sp-current .ensures) (c .before .before .before .before .before .before .before .before .before .before .before .if1 .taken) _ (c .before .before .before .before .before .before .before .before .before .cache-on .ensures) (c .before .before .before .before .before .before .before .before .if2 .taken) _ (c .before .before .before .before .before .before .before .is-stack .ensures) (c .before .before .before .before .before .before .if3 .left) (c .before .before .enter-empty .ensures)
 
 same-length-3 : tie.Need-same-length-3
-same-length-3 c = (c .before .before .enter-uncached .kept .0)
+same-length-3 c = search needs
 
 returns-3 : tie.Need-returns-3
-returns-3 c = at-uncached (c .before .before .before .before .before .before .before .before .before .before .before .before .before .before .args .r .now) (c .before .before .before .before .before .before .before .before .before .before .before .before .before .before .args .q .now) (c .before .before .before .before .before .before .before .before .before .before .before .before .before .before .args .mode) (c .before .before .before .before .before .before .before .before .before .before .before .before .before .before .args .target) (journaled (c .before .before .before .before .before .before .before .before .before .before .before .before .before .before .args .m .now) (c .before .before .before .before .before .before .before .before .before .before .before .before .before .before .args .places .now) (c .before .before .before .before .before .before .before .before .before .before .before .before .before .before .args .words .now)) _ _ (c .before .before .before .before .before .before .before .before .before .before .before .sp-current .ensures) (c .before .before .before .before .before .before .before .before .before .before .if1 .taken) _ (c .before .before .before .before .before .before .before .before .cache-on .ensures) (c .before .before .before .before .before .before .before .if2 .left) (c .before .before .enter-uncached .ensures)
+returns-3 c = at-uncached (c .before .before .before .before .before .before .before .before .before .before .before .args .r .now) (c .before .before .before .before .before .before .before .before .before .before .before .args .q .now) (c .before .before .before .before .before .before .before .before .before .before .before .args .mode) (c .before .before .before .before .before .before .before .before .before .before .before .args .target) (journaled (c .before .before .before .before .before .before .before .before .before .before .before .args .m .now) (c .before .before .before .before .before .before .before .before .before .before .before .args .journal .now)) _ _ (c .before .before .before .before .before .before .before .before .sp-current .ensures) (c .before .before .before .before .before .before .before .if1 .taken) _ (c .before .before .before .before .before .cache-on .ensures) (c .before .before .before .before .if2 .left) (c .enter-uncached .ensures)
 
 same-length-4 : tie.Need-same-length-4
-same-length-4 c = (c .before .before .enter-plain .kept .0)
+same-length-4 c = search needs
 
 returns-4 : tie.Need-returns-4
-returns-4 c = at-plain (c .before .before .before .before .before .before .before .before .before .before .before .args .r .now) (c .before .before .before .before .before .before .before .before .before .before .before .args .q .now) (c .before .before .before .before .before .before .before .before .before .before .before .args .mode) (c .before .before .before .before .before .before .before .before .before .before .before .args .target) (journaled (c .before .before .before .before .before .before .before .before .before .before .before .args .m .now) (c .before .before .before .before .before .before .before .before .before .before .before .args .places .now) (c .before .before .before .before .before .before .before .before .before .before .before .args .words .now)) _ _ (c .before .before .before .before .before .before .before .before .sp-current .ensures) (c .before .before .before .before .before .before .before .if1 .left) (c .before .before .enter-plain .ensures)
+returns-4 c = at-plain (c .before .before .before .before .before .before .before .before .args .r .now) (c .before .before .before .before .before .before .before .before .args .q .now) (c .before .before .before .before .before .before .before .before .args .mode) (c .before .before .before .before .before .before .before .before .args .target) (journaled (c .before .before .before .before .before .before .before .before .args .m .now) (c .before .before .before .before .before .before .before .before .args .journal .now)) _ _ (c .before .before .before .before .before .sp-current .ensures) (c .before .before .before .before .if1 .left) (c .enter-plain .ensures)
 
 pub enter-at-spec : {M : Type 1} → statement M
 enter-at-spec =

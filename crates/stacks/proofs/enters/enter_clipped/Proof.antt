@@ -14,11 +14,8 @@ clipped-requires c κs = search needs
 check-target-requires : tie.Need-check-target-requires
 check-target-requires c κs = search needs
 
-same-length : tie.Need-same-length
-same-length c = (c .before .before .before .check-target .kept .0)
-
 returns : tie.Need-returns
-returns c = clipped-first (c .before .before .before .before .before .before .before .before .before .before .before .args .r .now) (c .before .before .before .before .before .before .before .before .before .before .before .args .q .now) (c .before .before .before .before .before .before .before .before .before .before .before .args .target) (c .before .before .before .before .before .before .before .before .before .before .before .args .old) _ (c .before .before .before .before .before .before .before .before .clipped .ensures) _ _ (journaled (c .before .before .before .before .before .before .before .before .before .before .before .args .m .now) (c .before .before .before .before .before .before .before .before .before .before .before .args .places .now) (c .before .before .before .before .before .before .before .before .before .before .before .args .words .now)) _ (c .before .before .before .check-target .ensures) (c .if1 .taken)
+returns c = clipped-first (c .before .before .before .before .before .before .args .r .now) (c .before .before .before .before .before .before .args .q .now) (c .before .before .before .before .before .before .args .target) (c .before .before .before .before .before .before .args .old) _ (c .before .before .before .clipped .ensures) _ _ (journaled (c .before .before .before .before .before .before .args .m .now) (c .before .before .before .before .before .before .args .journal .now)) _ (c .before .check-target .ensures) (c .if1 .taken)
 
 element-copy-out-stb : tie.Need-element-copy-out-stb
 element-copy-out-stb c = search needs
@@ -32,11 +29,8 @@ is-virtual-requires c κs = search needs
 check-msp-requires : tie.Need-check-msp-requires
 check-msp-requires c κs = search needs
 
-same-length-2 : tie.Need-same-length-2
-same-length-2 c = (c .before .before .before .check-msp .kept .0) ∙ (c .before .before .before .before .before .before .before .before .before .before .before .before .before .before .before .before .check-target .kept .0)
-
 returns-2 : tie.Need-returns-2
-returns-2 c = clipped-second (c .before .before .before .before .before .before .before .before .before .before .before .before .before .before .before .before .before .before .before .before .before .before .before .before .args .r .now) (c .before .before .before .before .before .before .before .before .before .before .before .before .before .before .before .before .before .before .before .before .before .before .before .before .args .q .now) (c .before .before .before .before .before .before .before .before .before .before .before .before .before .before .before .before .before .before .before .before .before .before .before .before .args .target) (c .before .before .before .before .before .before .before .before .before .before .before .before .before .before .before .before .before .before .before .before .before .before .before .before .args .old) _ (c .before .before .before .before .before .before .before .before .before .before .before .before .before .before .before .before .before .before .before .before .before .clipped .ensures) _ _ (journaled (c .before .before .before .before .before .before .before .before .before .before .before .before .before .before .before .before .before .before .before .before .before .before .before .before .args .m .now) (c .before .before .before .before .before .before .before .before .before .before .before .before .before .before .before .before .before .before .before .before .before .before .before .before .args .places .now) (c .before .before .before .before .before .before .before .before .before .before .before .before .before .before .before .before .before .before .before .before .before .before .before .before .args .words .now)) _ (c .before .before .before .before .before .before .before .before .before .before .before .before .before .before .before .before .check-target .ensures) (c .before .before .before .before .before .before .before .before .before .before .before .before .before .if1 .left) _ _ (c .before .before .before .before .before .before .before .before .before .before .is-user .ensures) (c .before .before .before .before .before .before .before .before .is-virtual .ensures) _ _ _ (c .before .before .before .check-msp .ensures) (c .if2 .taken)
+returns-2 c = clipped-second (c .before .before .before .before .before .before .before .before .before .before .before .before .before .before .args .r .now) (c .before .before .before .before .before .before .before .before .before .before .before .before .before .before .args .q .now) (c .before .before .before .before .before .before .before .before .before .before .before .before .before .before .args .target) (c .before .before .before .before .before .before .before .before .before .before .before .before .before .before .args .old) _ (c .before .before .before .before .before .before .before .before .before .before .before .clipped .ensures) _ _ (journaled (c .before .before .before .before .before .before .before .before .before .before .before .before .before .before .args .m .now) (c .before .before .before .before .before .before .before .before .before .before .before .before .before .before .args .journal .now)) _ (c .before .before .before .before .before .before .before .before .before .check-target .ensures) (c .before .before .before .before .before .before .before .before .if1 .left) _ _ (c .before .before .before .before .before .is-user .ensures) (c .before .before .before .is-virtual .ensures) _ _ _ (c .before .check-msp .ensures) (c .if2 .taken)
 
 with-csp-requires : tie.Need-with-csp-requires
 with-csp-requires c κs = search needs
@@ -44,11 +38,8 @@ with-csp-requires c κs = search needs
 element-write-r : tie.Need-element-write-r
 element-write-r c = search needs
 
-same-length-3 : tie.Need-same-length-3
-same-length-3 c = (c .before .before .before .before .before .check-msp .kept .0) ∙ (c .before .before .before .before .before .before .before .before .before .before .before .before .before .before .before .before .before .before .check-target .kept .0)
-
 returns-3 : tie.Need-returns-3
-returns-3 c = clipped-done (c .before .before .before .before .before .before .before .before .before .before .before .before .before .before .before .before .before .before .before .before .before .before .before .before .before .before .args .r .now) (c .before .before .before .before .before .before .before .before .before .before .before .before .before .before .before .before .before .before .before .before .before .before .before .before .before .before .args .q .now) (c .before .before .before .before .before .before .before .before .before .before .before .before .before .before .before .before .before .before .before .before .before .before .before .before .before .before .args .target) (c .before .before .before .before .before .before .before .before .before .before .before .before .before .before .before .before .before .before .before .before .before .before .before .before .before .before .args .old) _ (c .before .before .before .before .before .before .before .before .before .before .before .before .before .before .before .before .before .before .before .before .before .before .before .clipped .ensures) _ _ (journaled (c .before .before .before .before .before .before .before .before .before .before .before .before .before .before .before .before .before .before .before .before .before .before .before .before .before .before .args .m .now) (c .before .before .before .before .before .before .before .before .before .before .before .before .before .before .before .before .before .before .before .before .before .before .before .before .before .before .args .places .now) (c .before .before .before .before .before .before .before .before .before .before .before .before .before .before .before .before .before .before .before .before .before .before .before .before .before .before .args .words .now)) _ (c .before .before .before .before .before .before .before .before .before .before .before .before .before .before .before .before .before .before .check-target .ensures) (c .before .before .before .before .before .before .before .before .before .before .before .before .before .before .before .if1 .left) _ _ (c .before .before .before .before .before .before .before .before .before .before .before .before .is-user .ensures) (c .before .before .before .before .before .before .before .before .before .before .is-virtual .ensures) _ _ _ (c .before .before .before .before .before .check-msp .ensures) (c .before .before .if2 .left) _ (c .with-csp .ensures)
+returns-3 c = clipped-done (c .before .before .before .before .before .before .before .before .before .before .before .before .before .before .before .before .args .r .now) (c .before .before .before .before .before .before .before .before .before .before .before .before .before .before .before .before .args .q .now) (c .before .before .before .before .before .before .before .before .before .before .before .before .before .before .before .before .args .target) (c .before .before .before .before .before .before .before .before .before .before .before .before .before .before .before .before .args .old) _ (c .before .before .before .before .before .before .before .before .before .before .before .before .before .clipped .ensures) _ _ (journaled (c .before .before .before .before .before .before .before .before .before .before .before .before .before .before .before .before .args .m .now) (c .before .before .before .before .before .before .before .before .before .before .before .before .before .before .before .before .args .journal .now)) _ (c .before .before .before .before .before .before .before .before .before .before .before .check-target .ensures) (c .before .before .before .before .before .before .before .before .before .before .if1 .left) _ _ (c .before .before .before .before .before .before .before .is-user .ensures) (c .before .before .before .before .before .is-virtual .ensures) _ _ _ (c .before .before .before .check-msp .ensures) (c .before .before .if2 .left) _ (c .with-csp .ensures)
 
 pub enter-clipped-spec : {M : Type 1} → statement M
 enter-clipped-spec =
@@ -57,15 +48,12 @@ enter-clipped-spec =
     element-copy-out-clipped
     clipped-requires
     check-target-requires
-    same-length
     returns
     element-copy-out-stb
     is-user-requires
     is-virtual-requires
     check-msp-requires
-    same-length-2
     returns-2
     with-csp-requires
     element-write-r
-    same-length-3
     returns-3)

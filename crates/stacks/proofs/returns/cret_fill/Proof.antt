@@ -26,13 +26,13 @@ same-length : tie.Need-same-length
 same-length c = (c .before .before .cret-caught .kept .0)
 
 returns : tie.Need-returns
-returns c = fill-on (c .before .before .before .before .before .before .before .before .before .before .before .before .before .before .before .args .r .now) (c .before .before .before .before .before .before .before .before .before .before .before .before .before .before .before .args .q .now) (c .before .before .before .before .before .before .before .before .before .before .before .before .before .before .before .args .w) (c .before .before .before .before .before .before .before .before .before .before .before .before .before .before .before .args .p) (journaled (c .before .before .before .before .before .before .before .before .before .before .before .before .before .before .before .args .m .now) (c .before .before .before .before .before .before .before .before .before .before .before .before .before .before .before .args .places .now) (c .before .before .before .before .before .before .before .before .before .before .before .before .before .before .before .args .words .now)) _ (c .before .before .before .before .before .before .before .before .before .before .before .before .before .kept .ensures) _ (c .before .before .before .before .before .before .before .before .before .before .before .before .bit .ensures) (c .before .before .before .before .before .before .before .before .before .before .before .if1 .taken) _ (c .before .before .before .before .before .before .before .before .before .bit2 .ensures) (c .before .before .before .before .before .before .before .before .if2 .taken) _ (c .before .before .cret-caught .ensures)
+returns c = fill-on (c .before .before .before .before .before .before .before .before .before .before .before .before .before .before .args .r .now) (c .before .before .before .before .before .before .before .before .before .before .before .before .before .before .args .q .now) (c .before .before .before .before .before .before .before .before .before .before .before .before .before .before .args .w) (c .before .before .before .before .before .before .before .before .before .before .before .before .before .before .args .p) (journaled (c .before .before .before .before .before .before .before .before .before .before .before .before .before .before .args .m .now) (c .before .before .before .before .before .before .before .before .before .before .before .before .before .before .args .journal .now)) _ (c .before .before .before .before .before .before .before .before .before .before .before .before .kept .ensures) _ (c .before .before .before .before .before .before .before .before .before .before .before .bit .ensures) (c .before .before .before .before .before .before .before .before .before .before .if1 .taken) _ (c .before .before .before .before .before .before .before .before .bit2 .ensures) (c .before .before .before .before .before .before .before .if2 .taken) _ (c .before .before .cret-caught .ensures)
 
 returns-2 : tie.Need-returns-2
-returns-2 c = fill-off (c .before .before .before .before .before .before .before .args .r .now) (c .before .before .before .before .before .before .before .args .q .now) (c .before .before .before .before .before .before .before .args .w) (c .before .before .before .before .before .before .before .args .p) (journaled (c .before .before .before .before .before .before .before .args .m .now) (c .before .before .before .before .before .before .before .args .places .now) (c .before .before .before .before .before .before .before .args .words .now)) _ (c .before .before .before .before .before .kept .ensures) _ (c .before .before .before .before .bit .ensures) (c .before .before .before .if1 .taken) _ (c .before .bit2 .ensures) (c .if2 .left)
+returns-2 c = fill-off (c .before .before .before .before .before .before .before .args .r .now) (c .before .before .before .before .before .before .before .args .q .now) (c .before .before .before .before .before .before .before .args .w) (c .before .before .before .before .before .before .before .args .p) (journaled (c .before .before .before .before .before .before .before .args .m .now) (c .before .before .before .before .before .before .before .args .journal .now)) _ (c .before .before .before .before .before .kept .ensures) _ (c .before .before .before .before .bit .ensures) (c .before .before .before .if1 .taken) _ (c .before .bit2 .ensures) (c .if2 .left)
 
 returns-3 : tie.Need-returns-3
-returns-3 c = fill-left (c .before .before .before .before .args .r .now) (c .before .before .before .before .args .q .now) (c .before .before .before .before .args .w) (c .before .before .before .before .args .p) (journaled (c .before .before .before .before .args .m .now) (c .before .before .before .before .args .places .now) (c .before .before .before .before .args .words .now)) _ (c .before .before .kept .ensures) _ (c .before .bit .ensures) (c .if1 .left)
+returns-3 c = fill-left (c .before .before .before .before .args .r .now) (c .before .before .before .before .args .q .now) (c .before .before .before .before .args .w) (c .before .before .before .before .args .p) (journaled (c .before .before .before .before .args .m .now) (c .before .before .before .before .args .journal .now)) _ (c .before .before .kept .ensures) _ (c .before .bit .ensures) (c .if1 .left)
 
 pub cret-fill-spec : {M : Type 1} → statement M
 cret-fill-spec =

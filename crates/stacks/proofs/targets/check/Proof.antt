@@ -10,19 +10,13 @@ probe-requires c κs = search needs
 set-fault-requires : tie.Need-set-fault-requires
 set-fault-requires c κs = search needs
 
-same-length : tie.Need-same-length
-same-length c = search needs
-
 returns : tie.Need-returns
-returns c = check-faulted (c .before .before .before .before .before .before .args .r .now) (c .before .before .before .before .before .before .args .q .now) (regimeFor (c .before .before .before .before .before .before .args .stb) (c .before .before .before .before .before .before .args .user) (c .before .before .before .before .before .before .args .translated)) (c .before .before .before .before .before .before .args .a) _ (c .before .before .before .before .before .before .args .m .now) (c .before .before .before .before .before .before .args .places .now) (c .before .before .before .before .before .before .args .words .now) (c .before .before .before .probe .ensures) _ (c .before .before .if1 .taken) (c .set-fault .ensures)
-
-same-length-2 : tie.Need-same-length-2
-same-length-2 c = search needs
+returns c = check-faulted (c .before .before .before .before .before .args .r .now) (c .before .before .before .before .before .args .q .now) (regimeFor (c .before .before .before .before .before .args .stb) (c .before .before .before .before .before .args .user) (c .before .before .before .before .before .args .translated)) (c .before .before .before .before .before .args .a) _ (c .before .before .before .before .before .args .m .now) (c .before .before .before .before .before .args .journal .now) (c .before .before .before .probe .ensures) _ (c .before .before .if1 .taken) (c .set-fault .ensures)
 
 returns-2 : tie.Need-returns-2
-returns-2 c = checked (c .before .before .before .before .args .r .now) (c .before .before .before .before .args .q .now) (regimeFor (c .before .before .before .before .args .stb) (c .before .before .before .before .args .user) (c .before .before .before .before .args .translated)) (c .before .before .before .before .args .a) _ (c .before .before .before .before .args .m .now) (c .before .before .before .before .args .places .now) (c .before .before .before .before .args .words .now) (c .before .probe .ensures) (c .if1 .left)
+returns-2 c = checked (c .before .before .before .args .r .now) (c .before .before .before .args .q .now) (regimeFor (c .before .before .before .args .stb) (c .before .before .before .args .user) (c .before .before .before .args .translated)) (c .before .before .before .args .a) _ (c .before .before .before .args .m .now) (c .before .before .before .args .journal .now) (c .before .probe .ensures) (c .if1 .left)
 
 pub check-spec : {M : Type 1} → statement M
 check-spec =
     tie.close
-    (tie.spec probe-requires set-fault-requires same-length returns same-length-2 returns-2)
+    (tie.spec probe-requires set-fault-requires returns returns-2)

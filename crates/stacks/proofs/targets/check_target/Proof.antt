@@ -16,11 +16,8 @@ is-virtual-requires c κs = search needs
 check-requires : tie.Need-check-requires
 check-requires c κs = search needs
 
-same-length : tie.Need-same-length
-same-length c = (c .before .before .check .kept .0)
-
 returns : tie.Need-returns
-returns c = target-checked (c .before .before .before .before .before .before .before .before .before .before .before .before .before .args .r .now) (c .before .before .before .before .before .before .before .before .before .before .before .before .before .args .q .now) (c .before .before .before .before .before .before .before .before .before .before .before .before .before .args .a) _ _ (journaled (c .before .before .before .before .before .before .before .before .before .before .before .before .before .args .m .now) (c .before .before .before .before .before .before .before .before .before .before .before .before .before .args .places .now) (c .before .before .before .before .before .before .before .before .before .before .before .before .before .args .words .now)) _ _ _ (c .before .before .before .before .before .before .before .before .before .is-user .ensures) (c .before .before .before .before .before .before .before .is-virtual .ensures) (c .before .before .check .ensures)
+returns c = target-checked (c .before .before .before .before .before .before .before .before .args .r .now) (c .before .before .before .before .before .before .before .before .args .q .now) (c .before .before .before .before .before .before .before .before .args .a) _ _ (journaled (c .before .before .before .before .before .before .before .before .args .m .now) (c .before .before .before .before .before .before .before .before .args .journal .now)) _ _ _ (c .before .before .before .before .is-user .ensures) (c .before .before .is-virtual .ensures) (c .check .ensures)
 
 pub check-target-spec : {M : Type 1} → statement M
 check-target-spec =
@@ -30,5 +27,4 @@ check-target-spec =
     is-user-requires
     is-virtual-requires
     check-requires
-    same-length
     returns)

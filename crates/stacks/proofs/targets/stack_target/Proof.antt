@@ -62,31 +62,31 @@ same-length : tie.Need-same-length
 same-length c = search needs
 
 returns : tie.Need-returns
-returns c = target-absolute (c .before .before .before .before .before .before .before .before .before .before .args .r .now) (c .before .before .before .before .before .before .before .before .before .before .args .q .now) (c .before .before .before .before .before .before .before .before .before .before .args .mode) (c .before .before .before .before .before .before .before .before .before .before .args .v) _ _ (journaled (c .before .before .before .before .before .before .before .before .before .before .args .m .now) (c .before .before .before .before .before .before .before .before .before .before .args .places .now) (c .before .before .before .before .before .before .before .before .before .before .args .words .now)) _ (c .before .before .before .before .before .before .before .enum-told .given .1) (c .before .before .load .ensures)
+returns c = target-absolute (c .before .before .before .before .before .before .before .before .before .args .r .now) (c .before .before .before .before .before .before .before .before .before .args .q .now) (c .before .before .before .before .before .before .before .before .before .args .mode) (c .before .before .before .before .before .before .before .before .before .args .v) _ _ (journaled (c .before .before .before .before .before .before .before .before .before .args .m .now) (c .before .before .before .before .before .before .before .before .before .args .journal .now)) _ (c .before .before .before .before .before .before .enum-told .given .1) (c .before .before .load .ensures)
 
 returns-2 : tie.Need-returns-2
-returns-2 c = target-stack (c .before .before .before .before .before .before .args .r .now) (c .before .before .before .before .before .before .args .q .now) (c .before .before .before .before .before .before .args .mode) (c .before .before .before .before .before .before .args .v) _ (journaled (c .before .before .before .before .before .before .args .m .now) (c .before .before .before .before .before .before .args .places .now) (c .before .before .before .before .before .before .args .words .now)) (c .before .before .before .enum-told2 .given .1) _ (c .before .stack-address .ensures) (c .good2 .ensures)
+returns-2 c = target-stack (c .before .before .before .before .before .before .args .r .now) (c .before .before .before .before .before .before .args .q .now) (c .before .before .before .before .before .before .args .mode) (c .before .before .before .before .before .before .args .v) _ (journaled (c .before .before .before .before .before .before .args .m .now) (c .before .before .before .before .before .before .args .journal .now)) (c .before .before .before .enum-told2 .given .1) _ (c .before .stack-address .ensures) (c .good2 .ensures)
 
 same-length-2 : tie.Need-same-length-2
 same-length-2 c = search needs
 
 returns-3 : tie.Need-returns-3
-returns-3 c = target-indirect (c .before .before .before .before .before .before .before .before .before .before .before .before .args .r .now) (c .before .before .before .before .before .before .before .before .before .before .before .before .args .q .now) (c .before .before .before .before .before .before .before .before .before .before .before .before .args .mode) (c .before .before .before .before .before .before .before .before .before .before .before .before .args .v) _ _ (journaled (c .before .before .before .before .before .before .before .before .before .before .before .before .args .m .now) (c .before .before .before .before .before .before .before .before .before .before .before .before .args .places .now) (c .before .before .before .before .before .before .before .before .before .before .before .before .args .words .now)) _ _ (c .before .before .before .stack-address2 .ensures) (c .before .before .before .before .before .before .before .before .before .enum-told3 .given .1) (c .before .before .load2 .ensures)
+returns-3 c = target-indirect (c .before .before .before .before .before .before .before .before .before .before .before .args .r .now) (c .before .before .before .before .before .before .before .before .before .before .before .args .q .now) (c .before .before .before .before .before .before .before .before .before .before .before .args .mode) (c .before .before .before .before .before .before .before .before .before .before .before .args .v) _ _ (journaled (c .before .before .before .before .before .before .before .before .before .before .before .args .m .now) (c .before .before .before .before .before .before .before .before .before .before .before .args .journal .now)) _ _ (c .before .before .before .stack-address2 .ensures) (c .before .before .before .before .before .before .before .before .enum-told3 .given .1) (c .before .before .load2 .ensures)
 
 returns-4 : tie.Need-returns-4
-returns-4 c = target-immediate (c .before .before .before .before .args .r .now) (c .before .before .before .before .args .q .now) (c .before .before .before .before .args .mode) (c .before .before .before .before .args .v) _ (journaled (c .before .before .before .before .args .m .now) (c .before .before .before .before .args .places .now) (c .before .before .before .before .args .words .now)) (c .good3 .ensures) (c .before .enum-told4 .given .1)
+returns-4 c = target-immediate (c .before .before .before .before .args .r .now) (c .before .before .before .before .args .q .now) (c .before .before .before .before .args .mode) (c .before .before .before .before .args .v) _ (journaled (c .before .before .before .before .args .m .now) (c .before .before .before .before .args .journal .now)) (c .good3 .ensures) (c .before .enum-told4 .given .1)
 
 returns-5 : tie.Need-returns-5
-returns-5 c = target-flow1 (c .before .before .before .before .args .r .now) (c .before .before .before .before .args .q .now) (c .before .before .before .before .args .mode) (c .before .before .before .before .args .v) _ (journaled (c .before .before .before .before .args .m .now) (c .before .before .before .before .args .places .now) (c .before .before .before .before .args .words .now)) (c .good4 .ensures) (c .before .enum-told5 .given .1)
+returns-5 c = target-flow1 (c .before .before .before .before .args .r .now) (c .before .before .before .before .args .q .now) (c .before .before .before .before .args .mode) (c .before .before .before .before .args .v) _ (journaled (c .before .before .before .before .args .m .now) (c .before .before .before .before .args .journal .now)) (c .good4 .ensures) (c .before .enum-told5 .given .1)
 
 returns-6 : tie.Need-returns-6
-returns-6 c = target-flow2 (c .before .before .before .before .args .r .now) (c .before .before .before .before .args .q .now) (c .before .before .before .before .args .mode) (c .before .before .before .before .args .v) _ (journaled (c .before .before .before .before .args .m .now) (c .before .before .before .before .args .places .now) (c .before .before .before .before .args .words .now)) (c .good5 .ensures) (c .before .enum-told6 .given .1)
+returns-6 c = target-flow2 (c .before .before .before .before .args .r .now) (c .before .before .before .before .args .q .now) (c .before .before .before .before .args .mode) (c .before .before .before .before .args .v) _ (journaled (c .before .before .before .before .args .m .now) (c .before .before .before .before .args .journal .now)) (c .good5 .ensures) (c .before .enum-told6 .given .1)
 
 returns-7 : tie.Need-returns-7
-returns-7 c = target-flow3 (c .before .before .before .before .args .r .now) (c .before .before .before .before .args .q .now) (c .before .before .before .before .args .mode) (c .before .before .before .before .args .v) _ (journaled (c .before .before .before .before .args .m .now) (c .before .before .before .before .args .places .now) (c .before .before .before .before .args .words .now)) (c .good6 .ensures) (c .before .enum-told7 .given .1)
+returns-7 c = target-flow3 (c .before .before .before .before .args .r .now) (c .before .before .before .before .args .q .now) (c .before .before .before .before .args .mode) (c .before .before .before .before .args .v) _ (journaled (c .before .before .before .before .args .m .now) (c .before .before .before .before .args .journal .now)) (c .good6 .ensures) (c .before .enum-told7 .given .1)
 
 returns-8 : tie.Need-returns-8
-returns-8 c = target-flow4 (c .before .before .before .before .args .r .now) (c .before .before .before .before .args .q .now) (c .before .before .before .before .args .mode) (c .before .before .before .before .args .v) _ (journaled (c .before .before .before .before .args .m .now) (c .before .before .before .before .args .places .now) (c .before .before .before .before .args .words .now)) (c .good7 .ensures) (c .before .enum-told8 .given .1)
+returns-8 c = target-flow4 (c .before .before .before .before .args .r .now) (c .before .before .before .before .args .q .now) (c .before .before .before .before .args .mode) (c .before .before .before .before .args .v) _ (journaled (c .before .before .before .before .args .m .now) (c .before .before .before .before .args .journal .now)) (c .good7 .ensures) (c .before .enum-told8 .given .1)
 
 pub stack-target-spec : {M : Type 1} → statement M
 stack-target-spec =
