@@ -83,21 +83,20 @@ fn class_of(i: Instruction) -> u64
 // An instruction executed, with what tracing makes of it.
 fn act_on(
     m: &mut [u8],
-    places: &mut [u32; 201],
-    words: &mut [[u8; 4]; 200],
+    journal: &mut [u64; 201],
     q: &mut [[u32; 4]; 16],
     r: &mut [u32; 17],
     confined: bool,
     i: Instruction,
 ) -> u64
-    ensures { λ x. ⌜ gave (triedOut (answerOf x) (now (r .exit)) (now (q .exit))) (journaled (now (m .exit)) (now (places .exit)) (now (words .exit))) ≡ interpret logging (actOf confined (cpu (now (r .entry)) (now (q .entry))) (meets i)) (journaled (now (m .entry)) (now (places .entry)) (now (words .entry))) ⌝ }
+    ensures { λ x. ⌜ gave (triedOut (answerOf x) (now (r .exit)) (now (q .exit))) (journaled (now (m .exit)) (now (journal .exit))) ≡ interpret logging (actOf confined (cpu (now (r .entry)) (now (q .entry))) (meets i)) (journaled (now (m .entry)) (now (journal .entry))) ⌝ }
 {
     let class = class_of(i);
     let stops = confined & is_kcall(i);
     if stops {
         return 0x20;
     }
-    let x = execute(m, places, words, q, r, i);
+    let x = execute(m, journal, q, r, i);
     if 0x1_0000_0000 <= x {
         return x;
     }
@@ -107,19 +106,18 @@ fn act_on(
 // An unimplemented instruction or a trap, by its vector.
 fn act_unimplemented(
     m: &mut [u8],
-    places: &mut [u32; 201],
-    words: &mut [[u8; 4]; 200],
+    journal: &mut [u64; 201],
     q: &mut [[u32; 4]; 16],
     r: &mut [u32; 17],
     confined: bool,
     vector: u32,
 ) -> u64
-    ensures { λ x. ⌜ gave (triedOut (answerOf x) (now (r .exit)) (now (q .exit))) (journaled (now (m .exit)) (now (places .exit)) (now (words .exit))) ≡ interpret logging (actOf confined (cpu (now (r .entry)) (now (q .entry))) (vectored vector)) (journaled (now (m .entry)) (now (places .entry)) (now (words .entry))) ⌝ }
+    ensures { λ x. ⌜ gave (triedOut (answerOf x) (now (r .exit)) (now (q .exit))) (journaled (now (m .exit)) (now (journal .exit))) ≡ interpret logging (actOf confined (cpu (now (r .entry)) (now (q .entry))) (vectored vector)) (journaled (now (m .entry)) (now (journal .entry))) ⌝ }
 {
     if confined {
         return 0x21;
     }
-    let x = unimplemented_sequence(m, places, words, q, r, vector);
+    let x = unimplemented_sequence(m, journal, q, r, vector);
     if 0x1_0000_0000 <= x {
         return x;
     }
@@ -129,20 +127,19 @@ fn act_unimplemented(
 // What the decoder answered.
 fn act_on_answer(
     m: &mut [u8],
-    places: &mut [u32; 201],
-    words: &mut [[u8; 4]; 200],
+    journal: &mut [u64; 201],
     q: &mut [[u32; 4]; 16],
     r: &mut [u32; 17],
     confined: bool,
     a: Answer,
 ) -> u64
-    ensures { λ x. ⌜ gave (triedOut (answerOf x) (now (r .exit)) (now (q .exit))) (journaled (now (m .exit)) (now (places .exit)) (now (words .exit))) ≡ interpret logging (onward (actOf confined (cpu (now (r .entry)) (now (q .entry)))) (met (cpu (now (r .entry)) (now (q .entry))) a)) (journaled (now (m .entry)) (now (places .entry)) (now (words .entry))) ⌝ }
+    ensures { λ x. ⌜ gave (triedOut (answerOf x) (now (r .exit)) (now (q .exit))) (journaled (now (m .exit)) (now (journal .exit))) ≡ interpret logging (onward (actOf confined (cpu (now (r .entry)) (now (q .entry)))) (met (cpu (now (r .entry)) (now (q .entry))) a)) (journaled (now (m .entry)) (now (journal .entry))) ⌝ }
 {
     match a {
-        Answer::Is(i) => act_on(m, places, words, q, r, confined, i),
+        Answer::Is(i) => act_on(m, journal, q, r, confined, i),
         Answer::Illegal => raised(3),
-        Answer::Unimplemented => act_unimplemented(m, places, words, q, r, confined, 12),
-        Answer::Trap => act_unimplemented(m, places, words, q, r, confined, 8),
+        Answer::Unimplemented => act_unimplemented(m, journal, q, r, confined, 12),
+        Answer::Trap => act_unimplemented(m, journal, q, r, confined, 8),
         Answer::Refused(_) => raised(3),
     }
 }
@@ -150,17 +147,16 @@ fn act_on_answer(
 // The instruction at PC; a confined run stops at a KCALL or an unimplemented instruction that has only been fetched.
 pub fn attempt(
     m: &mut [u8],
-    places: &mut [u32; 201],
-    words: &mut [[u8; 4]; 200],
+    journal: &mut [u64; 201],
     q: &mut [[u32; 4]; 16],
     r: &mut [u32; 17],
     confined: bool,
 ) -> u64
-    ensures { λ x. ⌜ gave (triedOut (answerOf x) (now (r .exit)) (now (q .exit))) (journaled (now (m .exit)) (now (places .exit)) (now (words .exit))) ≡ interpret logging (attemptOf confined (cpu (now (r .entry)) (now (q .entry)))) (journaled (now (m .entry)) (now (places .entry)) (now (words .entry))) ⌝ }
+    ensures { λ x. ⌜ gave (triedOut (answerOf x) (now (r .exit)) (now (q .exit))) (journaled (now (m .exit)) (now (journal .exit))) ≡ interpret logging (attemptOf confined (cpu (now (r .entry)) (now (q .entry)))) (journaled (now (m .entry)) (now (journal .entry))) ⌝ }
 {
-    let f = fetch_text(m, places, words, q, r);
+    let f = fetch_text(m, journal, q, r);
     if f.fault != 0 {
         return raised(low32(f.fault));
     }
-    act_on_answer(m, places, words, q, r, confined, decode_text(f.text))
+    act_on_answer(m, journal, q, r, confined, decode_text(f.text))
 }

@@ -25,8 +25,7 @@ ghost use Rattle.exec.specs.Execute.{twoOperands, executeNormal, execute as exe
 // Two operands, and PC n parcels on.
 fn execute_two(
     m: &mut [u8],
-    places: &mut [u32; 201],
-    words: &mut [[u8; 4]; 200],
+    journal: &mut [u64; 201],
     q: &mut [[u32; 4]; 16],
     r: &mut [u32; 17],
     n: u32,
@@ -35,9 +34,9 @@ fn execute_two(
     s: Operand,
     d: Operand,
 ) -> u64
-    ensures { λ x. ⌜ gave (ended (answerOf x) (now (r .exit)) (now (q .exit))) (journaled (now (m .exit)) (now (places .exit)) (now (words .exit))) ≡ interpret logging (executeNormal (cpu (now (r .entry)) (now (q .entry))) n (twoOperands wide task s d)) (journaled (now (m .entry)) (now (places .entry)) (now (words .entry))) ⌝ }
+    ensures { λ x. ⌜ gave (ended (answerOf x) (now (r .exit)) (now (q .exit))) (journaled (now (m .exit)) (now (journal .exit))) ≡ interpret logging (executeNormal (cpu (now (r .entry)) (now (q .entry))) n (twoOperands wide task s d)) (journaled (now (m .entry)) (now (journal .entry))) ⌝ }
 {
-    let x = execute_dyadic(m, places, words, q, r, wide, task, s, d);
+    let x = execute_dyadic(m, journal, q, r, wide, task, s, d);
     if 0x1_0000_0000 <= x {
         return x;
     }
@@ -48,21 +47,19 @@ fn execute_two(
 // One parcel: s and d are the values of its fields.
 fn execute_short(
     m: &mut [u8],
-    places: &mut [u32; 201],
-    words: &mut [[u8; 4]; 200],
+    journal: &mut [u64; 201],
     q: &mut [[u32; 4]; 16],
     r: &mut [u32; 17],
     form: ShortForm,
     s: u32,
     d: u32,
 ) -> u64
-    ensures { λ x. ⌜ gave (ended (answerOf x) (now (r .exit)) (now (q .exit))) (journaled (now (m .exit)) (now (places .exit)) (now (words .exit))) ≡ interpret logging (executeNormal (cpu (now (r .entry)) (now (q .entry))) 1 (formed form s d)) (journaled (now (m .entry)) (now (places .entry)) (now (words .entry))) ⌝ }
+    ensures { λ x. ⌜ gave (ended (answerOf x) (now (r .exit)) (now (q .exit))) (journaled (now (m .exit)) (now (journal .exit))) ≡ interpret logging (executeNormal (cpu (now (r .entry)) (now (q .entry))) 1 (formed form s d)) (journaled (now (m .entry)) (now (journal .entry))) ⌝ }
 {
     match form {
         ShortForm::Two(task, a, b) => execute_two(
             m,
-            places,
-            words,
+            journal,
             q,
             r,
             1,
@@ -71,27 +68,26 @@ fn execute_short(
             Operand::General(a, s),
             Operand::General(b, d),
         ),
-        ShortForm::One(o, mode) => execute_monadic(m, places, words, q, r, o, mode, s, 1),
-        ShortForm::Zero(o) => execute_niladic(m, places, words, q, r, o),
+        ShortForm::One(o, mode) => execute_monadic(m, journal, q, r, o, mode, s, 1),
+        ShortForm::Zero(o) => execute_niladic(m, journal, q, r, o),
     }
 }
 
 pub fn execute(
     m: &mut [u8],
-    places: &mut [u32; 201],
-    words: &mut [[u8; 4]; 200],
+    journal: &mut [u64; 201],
     q: &mut [[u32; 4]; 16],
     r: &mut [u32; 17],
     i: Instruction,
 ) -> u64
-    ensures { λ x. ⌜ gave (ended (answerOf x) (now (r .exit)) (now (q .exit))) (journaled (now (m .exit)) (now (places .exit)) (now (words .exit))) ≡ interpret logging (executeOf (cpu (now (r .entry)) (now (q .entry))) i) (journaled (now (m .entry)) (now (places .entry)) (now (words .entry))) ⌝ }
+    ensures { λ x. ⌜ gave (ended (answerOf x) (now (r .exit)) (now (q .exit))) (journaled (now (m .exit)) (now (journal .exit))) ≡ interpret logging (executeOf (cpu (now (r .entry)) (now (q .entry))) i) (journaled (now (m .entry)) (now (journal .entry))) ⌝ }
 {
     let n = length_of(i);
     match i {
         Instruction::Short(j) => {
             let row = j.row;
             let form = short_form(row);
-            execute_short(m, places, words, q, r, form, j.source, j.destination)
+            execute_short(m, journal, q, r, form, j.source, j.destination)
         }
         Instruction::Dyadic(j) => {
             let row = j.row;
@@ -99,13 +95,13 @@ pub fn execute(
             let wide = j.wide;
             let s = j.source;
             let d = j.destination;
-            execute_two(m, places, words, q, r, n, wide, task, s, d)
+            execute_two(m, journal, q, r, n, wide, task, s, d)
         }
         Instruction::Monadic(j) => {
             let row = j.row;
             let o = monadic_of(row);
             let mode = j.mode;
-            execute_monadic(m, places, words, q, r, o, mode, j.value, n)
+            execute_monadic(m, journal, q, r, o, mode, j.value, n)
         }
     }
 }

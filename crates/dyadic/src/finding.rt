@@ -35,24 +35,23 @@ pub struct Both {
 // The source is read, then the destination found.
 pub fn find(
     m: &mut [u8],
-    places: &mut [u32; 201],
-    words: &mut [[u8; 4]; 200],
+    journal: &mut [u64; 201],
     q: &[[u32; 4]; 16],
     r: &mut [u32; 17],
     wide: Wide,
     s: Operand,
     d: Operand,
 ) -> Found
-    ensures { λ z. ⌜ ((f : ℕ → Place → Program (Out Cpu)) → interpret logging (resumed (λ a. f (z .source) (placeAt d a)) (answerOf (z .answer)) (now (r .exit)) (now (q .entry))) (journaled (now (m .exit)) (now (places .exit)) (now (words .exit))) ≡ interpret logging (finding (cpu (now (r .entry)) (now (q .entry))) wide s d f) (journaled (now (m .entry)) (now (places .entry)) (now (words .entry)))) × (z .answer < 2 ^ 32 → now (r .exit) ≡ now (r .entry)) ⌝ }
+    ensures { λ z. ⌜ ((f : ℕ → Place → Program (Out Cpu)) → interpret logging (resumed (λ a. f (z .source) (placeAt d a)) (answerOf (z .answer)) (now (r .exit)) (now (q .entry))) (journaled (now (m .exit)) (now (journal .exit))) ≡ interpret logging (finding (cpu (now (r .entry)) (now (q .entry))) wide s d f) (journaled (now (m .entry)) (now (journal .entry)))) × (z .answer < 2 ^ 32 → now (r .exit) ≡ now (r .entry)) ⌝ }
 {
-    let x = read_operand(m, places, words, q, r, wide, s);
+    let x = read_operand(m, journal, q, r, wide, s);
     if 0x1_0000_0000 <= x {
         Found {
             answer: x,
             source: 0,
         }
     } else {
-        let a = locate_at(m, places, words, q, r, wide, d);
+        let a = locate_at(m, journal, q, r, wide, d);
         Found {
             answer: a,
             source: low32(x),
@@ -63,17 +62,16 @@ pub fn find(
 // And the destination is read.
 pub fn read_both(
     m: &mut [u8],
-    places: &mut [u32; 201],
-    words: &mut [[u8; 4]; 200],
+    journal: &mut [u64; 201],
     q: &[[u32; 4]; 16],
     r: &mut [u32; 17],
     wide: Wide,
     s: Operand,
     d: Operand,
 ) -> Both
-    ensures { λ z. ⌜ ((f : ℕ → Place → ℕ → Program (Out Cpu)) → interpret logging (resumed (λ y. f (z .source) (placeAt d (z .address)) y) (answerOf (z .answer)) (now (r .exit)) (now (q .entry))) (journaled (now (m .exit)) (now (places .exit)) (now (words .exit))) ≡ interpret logging (reading (cpu (now (r .entry)) (now (q .entry))) wide s d f) (journaled (now (m .entry)) (now (places .entry)) (now (words .entry)))) × (z .answer < 2 ^ 32 → now (r .exit) ≡ now (r .entry)) ⌝ }
+    ensures { λ z. ⌜ ((f : ℕ → Place → ℕ → Program (Out Cpu)) → interpret logging (resumed (λ y. f (z .source) (placeAt d (z .address)) y) (answerOf (z .answer)) (now (r .exit)) (now (q .entry))) (journaled (now (m .exit)) (now (journal .exit))) ≡ interpret logging (reading (cpu (now (r .entry)) (now (q .entry))) wide s d f) (journaled (now (m .entry)) (now (journal .entry)))) × (z .answer < 2 ^ 32 → now (r .exit) ≡ now (r .entry)) ⌝ }
 {
-    let f = find(m, places, words, q, r, wide, s, d);
+    let f = find(m, journal, q, r, wide, s, d);
     if 0x1_0000_0000 <= f.answer {
         Both {
             answer: f.answer,
@@ -82,7 +80,7 @@ pub fn read_both(
         }
     } else {
         let a = low32(f.answer);
-        let y = read_at(m, places, words, q, r, d, a);
+        let y = read_at(m, journal, q, r, d, a);
         Both {
             answer: y,
             source: f.source,

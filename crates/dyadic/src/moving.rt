@@ -22,21 +22,20 @@ ghost use Rattle.dyadic.specs.Code.{moveTo};
 // MOV.
 pub fn move_operand(
     m: &mut [u8],
-    places: &mut [u32; 201],
-    words: &mut [[u8; 4]; 200],
+    journal: &mut [u64; 201],
     q: &mut [[u32; 4]; 16],
     r: &mut [u32; 17],
     wide: Wide,
     s: Operand,
     d: Operand,
 ) -> u64
-    ensures { λ z. ⌜ gave (ended (answerOf z) (now (r .exit)) (now (q .exit))) (journaled (now (m .exit)) (now (places .exit)) (now (words .exit))) ≡ interpret logging (moveOf (cpu (now (r .entry)) (now (q .entry))) wide s d) (journaled (now (m .entry)) (now (places .entry)) (now (words .entry))) ⌝ }
+    ensures { λ z. ⌜ gave (ended (answerOf z) (now (r .exit)) (now (q .exit))) (journaled (now (m .exit)) (now (journal .exit))) ≡ interpret logging (moveOf (cpu (now (r .entry)) (now (q .entry))) wide s d) (journaled (now (m .entry)) (now (journal .entry))) ⌝ }
 {
-    let f = find(m, places, words, q, r, wide, s, d);
+    let f = find(m, journal, q, r, wide, s, d);
     if 0x1_0000_0000 <= f.answer {
         f.answer
     } else {
-        write_at(m, places, words, q, r, d, low32(f.answer), f.source)
+        write_at(m, journal, q, r, d, low32(f.answer), f.source)
     }
 }
 
@@ -60,41 +59,39 @@ fn address_of(o: Operand, a: u32) -> u32
 // A word to the destination.
 fn move_to(
     m: &mut [u8],
-    places: &mut [u32; 201],
-    words: &mut [[u8; 4]; 200],
+    journal: &mut [u64; 201],
     q: &mut [[u32; 4]; 16],
     r: &mut [u32; 17],
     wide: Wide,
     d: Operand,
     v: u32,
 ) -> u64
-    ensures { λ z. ⌜ gave (ended (answerOf z) (now (r .exit)) (now (q .exit))) (journaled (now (m .exit)) (now (places .exit)) (now (words .exit))) ≡ interpret logging (moveTo (cpu (now (r .entry)) (now (q .entry))) wide d v) (journaled (now (m .entry)) (now (places .entry)) (now (words .entry))) ⌝ }
+    ensures { λ z. ⌜ gave (ended (answerOf z) (now (r .exit)) (now (q .exit))) (journaled (now (m .exit)) (now (journal .exit))) ≡ interpret logging (moveTo (cpu (now (r .entry)) (now (q .entry))) wide d v) (journaled (now (m .entry)) (now (journal .entry))) ⌝ }
 {
-    let a = locate_at(m, places, words, q, r, wide, d);
+    let a = locate_at(m, journal, q, r, wide, d);
     if 0x1_0000_0000 <= a {
         a
     } else {
-        write_at(m, places, words, q, r, d, low32(a), v)
+        write_at(m, journal, q, r, d, low32(a), v)
     }
 }
 
 // MOVA.
 pub fn move_address(
     m: &mut [u8],
-    places: &mut [u32; 201],
-    words: &mut [[u8; 4]; 200],
+    journal: &mut [u64; 201],
     q: &mut [[u32; 4]; 16],
     r: &mut [u32; 17],
     wide: Wide,
     s: Operand,
     d: Operand,
 ) -> u64
-    ensures { λ z. ⌜ gave (ended (answerOf z) (now (r .exit)) (now (q .exit))) (journaled (now (m .exit)) (now (places .exit)) (now (words .exit))) ≡ interpret logging (moveAddress (cpu (now (r .entry)) (now (q .entry))) wide s d) (journaled (now (m .entry)) (now (places .entry)) (now (words .entry))) ⌝ }
+    ensures { λ z. ⌜ gave (ended (answerOf z) (now (r .exit)) (now (q .exit))) (journaled (now (m .exit)) (now (journal .exit))) ≡ interpret logging (moveAddress (cpu (now (r .entry)) (now (q .entry))) wide s d) (journaled (now (m .entry)) (now (journal .entry))) ⌝ }
 {
-    let a = locate_at(m, places, words, q, r, wide, s);
+    let a = locate_at(m, journal, q, r, wide, s);
     if 0x1_0000_0000 <= a {
         a
     } else {
-        move_to(m, places, words, q, r, wide, d, address_of(s, low32(a)))
+        move_to(m, journal, q, r, wide, d, address_of(s, low32(a)))
     }
 }

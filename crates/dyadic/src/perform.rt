@@ -22,8 +22,7 @@ ghost use Rattle.exec.specs.Dyadic.{perform as performOf, dyadic as dyadicOf};
 
 fn perform(
     m: &mut [u8],
-    places: &mut [u32; 201],
-    words: &mut [[u8; 4]; 200],
+    journal: &mut [u64; 201],
     q: &mut [[u32; 4]; 16],
     r: &mut [u32; 17],
     wide: Wide,
@@ -31,26 +30,25 @@ fn perform(
     s: Operand,
     d: Operand,
 ) -> u64
-    ensures { λ z. ⌜ gave (ended (answerOf z) (now (r .exit)) (now (q .exit))) (journaled (now (m .exit)) (now (places .exit)) (now (words .exit))) ≡ interpret logging (performOf (cpu (now (r .entry)) (now (q .entry))) wide task s d) (journaled (now (m .entry)) (now (places .entry)) (now (words .entry))) ⌝ }
+    ensures { λ z. ⌜ gave (ended (answerOf z) (now (r .exit)) (now (q .exit))) (journaled (now (m .exit)) (now (journal .exit))) ≡ interpret logging (performOf (cpu (now (r .entry)) (now (q .entry))) wide task s d) (journaled (now (m .entry)) (now (journal .entry))) ⌝ }
 {
     match task {
-        Task::Compute(op) => compute(m, places, words, q, r, wide, op, s, d),
-        Task::Accumulate(op) => accumulate(m, places, words, q, r, wide, op, s, d),
-        Task::Interlock(op) => interlock(m, places, words, q, r, wide, op, s, d),
-        Task::Compare(relation) => compare(m, places, words, q, r, wide, relation, s, d),
-        Task::TaggedAdd => compute_tagged(m, places, words, q, r, wide, false, s, d),
-        Task::TaggedSub => compute_tagged(m, places, words, q, r, wide, true, s, d),
-        Task::Move => move_operand(m, places, words, q, r, wide, s, d),
-        Task::MoveAddress => move_address(m, places, words, q, r, wide, s, d),
-        Task::MoveWords => move_words(m, places, words, q, r, wide, s, d),
+        Task::Compute(op) => compute(m, journal, q, r, wide, op, s, d),
+        Task::Accumulate(op) => accumulate(m, journal, q, r, wide, op, s, d),
+        Task::Interlock(op) => interlock(m, journal, q, r, wide, op, s, d),
+        Task::Compare(relation) => compare(m, journal, q, r, wide, relation, s, d),
+        Task::TaggedAdd => compute_tagged(m, journal, q, r, wide, false, s, d),
+        Task::TaggedSub => compute_tagged(m, journal, q, r, wide, true, s, d),
+        Task::Move => move_operand(m, journal, q, r, wide, s, d),
+        Task::MoveAddress => move_address(m, journal, q, r, wide, s, d),
+        Task::MoveWords => move_words(m, journal, q, r, wide, s, d),
     }
 }
 
 // The whole instruction.
 pub fn execute_dyadic(
     m: &mut [u8],
-    places: &mut [u32; 201],
-    words: &mut [[u8; 4]; 200],
+    journal: &mut [u64; 201],
     q: &mut [[u32; 4]; 16],
     r: &mut [u32; 17],
     wide: Wide,
@@ -58,12 +56,12 @@ pub fn execute_dyadic(
     s: Operand,
     d: Operand,
 ) -> u64
-    ensures { λ z. ⌜ gave (ended (answerOf z) (now (r .exit)) (now (q .exit))) (journaled (now (m .exit)) (now (places .exit)) (now (words .exit))) ≡ interpret logging (dyadicOf (cpu (now (r .entry)) (now (q .entry))) wide task s d) (journaled (now (m .entry)) (now (places .entry)) (now (words .entry))) ⌝ }
+    ensures { λ z. ⌜ gave (ended (answerOf z) (now (r .exit)) (now (q .exit))) (journaled (now (m .exit)) (now (journal .exit))) ≡ interpret logging (dyadicOf (cpu (now (r .entry)) (now (q .entry))) wide task s d) (journaled (now (m .entry)) (now (journal .entry))) ⌝ }
 {
     let e = check_registers(r, s, d);
     if 0x1_0000_0000 <= e {
         e
     } else {
-        perform(m, places, words, q, r, wide, task, s, d)
+        perform(m, journal, q, r, wide, task, s, d)
     }
 }

@@ -55,8 +55,7 @@ fn is_double(o: Operand) -> bool
 // To the destination.
 fn put_words(
     m: &mut [u8],
-    places: &mut [u32; 201],
-    words: &mut [[u8; 4]; 200],
+    journal: &mut [u64; 201],
     q: &mut [[u32; 4]; 16],
     r: &mut [u32; 17],
     double: bool,
@@ -65,21 +64,20 @@ fn put_words(
     w: Words,
     y: u32,
 ) -> u64
-    ensures { λ z. ⌜ gave (ended (answerOf z) (now (r .exit)) (now (q .exit))) (journaled (now (m .exit)) (now (places .exit)) (now (words .exit))) ≡ interpret logging (putWords (cpu (now (r .entry)) (now (q .entry))) double wide d (wordsOf double (w .w0) (w .w1) (w .w2) y)) (journaled (now (m .entry)) (now (places .entry)) (now (words .entry))) ⌝ }
+    ensures { λ z. ⌜ gave (ended (answerOf z) (now (r .exit)) (now (q .exit))) (journaled (now (m .exit)) (now (journal .exit))) ≡ interpret logging (putWords (cpu (now (r .entry)) (now (q .entry))) double wide d (wordsOf double (w .w0) (w .w1) (w .w2) y)) (journaled (now (m .entry)) (now (journal .entry))) ⌝ }
 {
-    let a = locate_at(m, places, words, q, r, wide, d);
+    let a = locate_at(m, journal, q, r, wide, d);
     if 0x1_0000_0000 <= a {
         a
     } else {
-        write_many(m, places, words, q, r, double, d, low32(a), w, y)
+        write_many(m, journal, q, r, double, d, low32(a), w, y)
     }
 }
 
 // From a source found at a.
 fn copy_words(
     m: &mut [u8],
-    places: &mut [u32; 201],
-    words: &mut [[u8; 4]; 200],
+    journal: &mut [u64; 201],
     q: &mut [[u32; 4]; 16],
     r: &mut [u32; 17],
     double: bool,
@@ -88,34 +86,33 @@ fn copy_words(
     a: u32,
     d: Operand,
 ) -> u64
-    ensures { λ z. ⌜ gave (ended (answerOf z) (now (r .exit)) (now (q .exit))) (journaled (now (m .exit)) (now (places .exit)) (now (words .exit))) ≡ interpret logging (copyWords (cpu (now (r .entry)) (now (q .entry))) double wide d (placeAt s a)) (journaled (now (m .entry)) (now (places .entry)) (now (words .entry))) ⌝ }
+    ensures { λ z. ⌜ gave (ended (answerOf z) (now (r .exit)) (now (q .exit))) (journaled (now (m .exit)) (now (journal .exit))) ≡ interpret logging (copyWords (cpu (now (r .entry)) (now (q .entry))) double wide d (placeAt s a)) (journaled (now (m .entry)) (now (journal .entry))) ⌝ }
 {
-    let w = read_many(m, places, words, q, r, double, s, a);
+    let w = read_many(m, journal, q, r, double, s, a);
     if 0x1_0000_0000 <= w.answer {
         w.answer
     } else {
-        put_words(m, places, words, q, r, double, wide, d, w, low32(w.answer))
+        put_words(m, journal, q, r, double, wide, d, w, low32(w.answer))
     }
 }
 
 // DQM.
 pub fn move_words(
     m: &mut [u8],
-    places: &mut [u32; 201],
-    words: &mut [[u8; 4]; 200],
+    journal: &mut [u64; 201],
     q: &mut [[u32; 4]; 16],
     r: &mut [u32; 17],
     wide: Wide,
     s: Operand,
     d: Operand,
 ) -> u64
-    ensures { λ z. ⌜ gave (ended (answerOf z) (now (r .exit)) (now (q .exit))) (journaled (now (m .exit)) (now (places .exit)) (now (words .exit))) ≡ interpret logging (moveWords (cpu (now (r .entry)) (now (q .entry))) wide s d) (journaled (now (m .entry)) (now (places .entry)) (now (words .entry))) ⌝ }
+    ensures { λ z. ⌜ gave (ended (answerOf z) (now (r .exit)) (now (q .exit))) (journaled (now (m .exit)) (now (journal .exit))) ≡ interpret logging (moveWords (cpu (now (r .entry)) (now (q .entry))) wide s d) (journaled (now (m .entry)) (now (journal .entry))) ⌝ }
 {
     let double = is_double(d);
-    let a = locate_at(m, places, words, q, r, wide, s);
+    let a = locate_at(m, journal, q, r, wide, s);
     if 0x1_0000_0000 <= a {
         a
     } else {
-        copy_words(m, places, words, q, r, double, wide, s, low32(a), d)
+        copy_words(m, journal, q, r, double, wide, s, low32(a), d)
     }
 }

@@ -30,17 +30,16 @@ ghost use Rattle.dyadic.specs.Code.{putResult, accumulateResult, compute
 // A packed result to the destination found at a.
 fn put_result(
     m: &mut [u8],
-    places: &mut [u32; 201],
-    words: &mut [[u8; 4]; 200],
+    journal: &mut [u64; 201],
     q: &mut [[u32; 4]; 16],
     r: &mut [u32; 17],
     d: Operand,
     a: u32,
     w: u64,
 ) -> u64
-    ensures { λ z. ⌜ gave (ended (answerOf z) (now (r .exit)) (now (q .exit))) (journaled (now (m .exit)) (now (places .exit)) (now (words .exit))) ≡ interpret logging (putResult (cpu (now (r .entry)) (now (q .entry))) (placeAt d a) (unpacked w)) (journaled (now (m .entry)) (now (places .entry)) (now (words .entry))) ⌝ }
+    ensures { λ z. ⌜ gave (ended (answerOf z) (now (r .exit)) (now (q .exit))) (journaled (now (m .exit)) (now (journal .exit))) ≡ interpret logging (putResult (cpu (now (r .entry)) (now (q .entry))) (placeAt d a) (unpacked w)) (journaled (now (m .entry)) (now (journal .entry))) ⌝ }
 {
-    let x = write_at(m, places, words, q, r, d, a, value_of(w));
+    let x = write_at(m, journal, q, r, d, a, value_of(w));
     if 0x1_0000_0000 <= x {
         x
     } else {
@@ -52,15 +51,14 @@ fn put_result(
 // A packed result to the accumulator.
 fn accumulate_result(
     m: &mut [u8],
-    places: &mut [u32; 201],
-    words: &mut [[u8; 4]; 200],
+    journal: &mut [u64; 201],
     q: &mut [[u32; 4]; 16],
     r: &mut [u32; 17],
     w: u64,
 ) -> u64
-    ensures { λ z. ⌜ gave (ended (answerOf z) (now (r .exit)) (now (q .exit))) (journaled (now (m .exit)) (now (places .exit)) (now (words .exit))) ≡ interpret logging (accumulateResult (cpu (now (r .entry)) (now (q .entry))) (unpacked w)) (journaled (now (m .entry)) (now (places .entry)) (now (words .entry))) ⌝ }
+    ensures { λ z. ⌜ gave (ended (answerOf z) (now (r .exit)) (now (q .exit))) (journaled (now (m .exit)) (now (journal .exit))) ≡ interpret logging (accumulateResult (cpu (now (r .entry)) (now (q .entry))) (unpacked w)) (journaled (now (m .entry)) (now (journal .entry))) ⌝ }
 {
-    let x = write_accumulator(m, places, words, q, r, value_of(w));
+    let x = write_accumulator(m, journal, q, r, value_of(w));
     if 0x1_0000_0000 <= x {
         x
     } else {
@@ -72,8 +70,7 @@ fn accumulate_result(
 // The result of destination y and source x.
 fn compute_with(
     m: &mut [u8],
-    places: &mut [u32; 201],
-    words: &mut [[u8; 4]; 200],
+    journal: &mut [u64; 201],
     q: &mut [[u32; 4]; 16],
     r: &mut [u32; 17],
     op: Operation,
@@ -82,39 +79,37 @@ fn compute_with(
     x: u32,
     y: u32,
 ) -> u64
-    ensures { λ z. ⌜ gave (ended (answerOf z) (now (r .exit)) (now (q .exit))) (journaled (now (m .exit)) (now (places .exit)) (now (words .exit))) ≡ interpret logging (computeWith (cpu (now (r .entry)) (now (q .entry))) op (placeAt d a) x y) (journaled (now (m .entry)) (now (places .entry)) (now (words .entry))) ⌝ }
+    ensures { λ z. ⌜ gave (ended (answerOf z) (now (r .exit)) (now (q .exit))) (journaled (now (m .exit)) (now (journal .exit))) ≡ interpret logging (computeWith (cpu (now (r .entry)) (now (q .entry))) op (placeAt d a) x y) (journaled (now (m .entry)) (now (journal .entry))) ⌝ }
 {
     if divides(op) & (x == 0) {
         raised(1)
     } else {
-        put_result(m, places, words, q, r, d, a, operate(op, y, x))
+        put_result(m, journal, q, r, d, a, operate(op, y, x))
     }
 }
 
 fn accumulate_with(
     m: &mut [u8],
-    places: &mut [u32; 201],
-    words: &mut [[u8; 4]; 200],
+    journal: &mut [u64; 201],
     q: &mut [[u32; 4]; 16],
     r: &mut [u32; 17],
     op: Operation,
     x: u32,
     y: u32,
 ) -> u64
-    ensures { λ z. ⌜ gave (ended (answerOf z) (now (r .exit)) (now (q .exit))) (journaled (now (m .exit)) (now (places .exit)) (now (words .exit))) ≡ interpret logging (accumulateWith (cpu (now (r .entry)) (now (q .entry))) op x y) (journaled (now (m .entry)) (now (places .entry)) (now (words .entry))) ⌝ }
+    ensures { λ z. ⌜ gave (ended (answerOf z) (now (r .exit)) (now (q .exit))) (journaled (now (m .exit)) (now (journal .exit))) ≡ interpret logging (accumulateWith (cpu (now (r .entry)) (now (q .entry))) op x y) (journaled (now (m .entry)) (now (journal .entry))) ⌝ }
 {
     if divides(op) & (x == 0) {
         raised(1)
     } else {
-        accumulate_result(m, places, words, q, r, operate(op, y, x))
+        accumulate_result(m, journal, q, r, operate(op, y, x))
     }
 }
 
 // The result to the destination, and what was there to the accumulator.
 fn interlock_with(
     m: &mut [u8],
-    places: &mut [u32; 201],
-    words: &mut [[u8; 4]; 200],
+    journal: &mut [u64; 201],
     q: &mut [[u32; 4]; 16],
     r: &mut [u32; 17],
     op: Operation,
@@ -123,22 +118,21 @@ fn interlock_with(
     x: u32,
     y: u32,
 ) -> u64
-    ensures { λ z. ⌜ gave (ended (answerOf z) (now (r .exit)) (now (q .exit))) (journaled (now (m .exit)) (now (places .exit)) (now (words .exit))) ≡ interpret logging (interlockWith (cpu (now (r .entry)) (now (q .entry))) op (placeAt d a) x y) (journaled (now (m .entry)) (now (places .entry)) (now (words .entry))) ⌝ }
+    ensures { λ z. ⌜ gave (ended (answerOf z) (now (r .exit)) (now (q .exit))) (journaled (now (m .exit)) (now (journal .exit))) ≡ interpret logging (interlockWith (cpu (now (r .entry)) (now (q .entry))) op (placeAt d a) x y) (journaled (now (m .entry)) (now (journal .entry))) ⌝ }
 {
     let w = operate(op, y, x);
-    let e = write_at(m, places, words, q, r, d, a, value_of(w));
+    let e = write_at(m, journal, q, r, d, a, value_of(w));
     if 0x1_0000_0000 <= e {
         e
     } else {
-        write_accumulator(m, places, words, q, r, y)
+        write_accumulator(m, journal, q, r, y)
     }
 }
 
 // ADD and its like.
 pub fn compute(
     m: &mut [u8],
-    places: &mut [u32; 201],
-    words: &mut [[u8; 4]; 200],
+    journal: &mut [u64; 201],
     q: &mut [[u32; 4]; 16],
     r: &mut [u32; 17],
     wide: Wide,
@@ -146,16 +140,15 @@ pub fn compute(
     s: Operand,
     d: Operand,
 ) -> u64
-    ensures { λ z. ⌜ gave (ended (answerOf z) (now (r .exit)) (now (q .exit))) (journaled (now (m .exit)) (now (places .exit)) (now (words .exit))) ≡ interpret logging (computeOf (cpu (now (r .entry)) (now (q .entry))) wide op s d) (journaled (now (m .entry)) (now (places .entry)) (now (words .entry))) ⌝ }
+    ensures { λ z. ⌜ gave (ended (answerOf z) (now (r .exit)) (now (q .exit))) (journaled (now (m .exit)) (now (journal .exit))) ≡ interpret logging (computeOf (cpu (now (r .entry)) (now (q .entry))) wide op s d) (journaled (now (m .entry)) (now (journal .entry))) ⌝ }
 {
-    let b = read_both(m, places, words, q, r, wide, s, d);
+    let b = read_both(m, journal, q, r, wide, s, d);
     if 0x1_0000_0000 <= b.answer {
         b.answer
     } else {
         compute_with(
             m,
-            places,
-            words,
+            journal,
             q,
             r,
             op,
@@ -170,8 +163,7 @@ pub fn compute(
 // ADD3 and its like.
 pub fn accumulate(
     m: &mut [u8],
-    places: &mut [u32; 201],
-    words: &mut [[u8; 4]; 200],
+    journal: &mut [u64; 201],
     q: &mut [[u32; 4]; 16],
     r: &mut [u32; 17],
     wide: Wide,
@@ -179,21 +171,20 @@ pub fn accumulate(
     s: Operand,
     d: Operand,
 ) -> u64
-    ensures { λ z. ⌜ gave (ended (answerOf z) (now (r .exit)) (now (q .exit))) (journaled (now (m .exit)) (now (places .exit)) (now (words .exit))) ≡ interpret logging (accumulateOf (cpu (now (r .entry)) (now (q .entry))) wide op s d) (journaled (now (m .entry)) (now (places .entry)) (now (words .entry))) ⌝ }
+    ensures { λ z. ⌜ gave (ended (answerOf z) (now (r .exit)) (now (q .exit))) (journaled (now (m .exit)) (now (journal .exit))) ≡ interpret logging (accumulateOf (cpu (now (r .entry)) (now (q .entry))) wide op s d) (journaled (now (m .entry)) (now (journal .entry))) ⌝ }
 {
-    let b = read_both(m, places, words, q, r, wide, s, d);
+    let b = read_both(m, journal, q, r, wide, s, d);
     if 0x1_0000_0000 <= b.answer {
         b.answer
     } else {
-        accumulate_with(m, places, words, q, r, op, b.source, low32(b.answer))
+        accumulate_with(m, journal, q, r, op, b.source, low32(b.answer))
     }
 }
 
 // ADDI, ANDI, ORI.
 pub fn interlock(
     m: &mut [u8],
-    places: &mut [u32; 201],
-    words: &mut [[u8; 4]; 200],
+    journal: &mut [u64; 201],
     q: &mut [[u32; 4]; 16],
     r: &mut [u32; 17],
     wide: Wide,
@@ -201,16 +192,15 @@ pub fn interlock(
     s: Operand,
     d: Operand,
 ) -> u64
-    ensures { λ z. ⌜ gave (ended (answerOf z) (now (r .exit)) (now (q .exit))) (journaled (now (m .exit)) (now (places .exit)) (now (words .exit))) ≡ interpret logging (interlockOf (cpu (now (r .entry)) (now (q .entry))) wide op s d) (journaled (now (m .entry)) (now (places .entry)) (now (words .entry))) ⌝ }
+    ensures { λ z. ⌜ gave (ended (answerOf z) (now (r .exit)) (now (q .exit))) (journaled (now (m .exit)) (now (journal .exit))) ≡ interpret logging (interlockOf (cpu (now (r .entry)) (now (q .entry))) wide op s d) (journaled (now (m .entry)) (now (journal .entry))) ⌝ }
 {
-    let b = read_both(m, places, words, q, r, wide, s, d);
+    let b = read_both(m, journal, q, r, wide, s, d);
     if 0x1_0000_0000 <= b.answer {
         b.answer
     } else {
         interlock_with(
             m,
-            places,
-            words,
+            journal,
             q,
             r,
             op,
@@ -225,8 +215,7 @@ pub fn interlock(
 // CMP.
 pub fn compare(
     m: &mut [u8],
-    places: &mut [u32; 201],
-    words: &mut [[u8; 4]; 200],
+    journal: &mut [u64; 201],
     q: &[[u32; 4]; 16],
     r: &mut [u32; 17],
     wide: Wide,
@@ -234,9 +223,9 @@ pub fn compare(
     s: Operand,
     d: Operand,
 ) -> u64
-    ensures { λ z. ⌜ gave (ended (answerOf z) (now (r .exit)) (now (q .entry))) (journaled (now (m .exit)) (now (places .exit)) (now (words .exit))) ≡ interpret logging (compareOf (cpu (now (r .entry)) (now (q .entry))) wide relation s d) (journaled (now (m .entry)) (now (places .entry)) (now (words .entry))) ⌝ }
+    ensures { λ z. ⌜ gave (ended (answerOf z) (now (r .exit)) (now (q .entry))) (journaled (now (m .exit)) (now (journal .exit))) ≡ interpret logging (compareOf (cpu (now (r .entry)) (now (q .entry))) wide relation s d) (journaled (now (m .entry)) (now (journal .entry))) ⌝ }
 {
-    let b = read_both(m, places, words, q, r, wide, s, d);
+    let b = read_both(m, journal, q, r, wide, s, d);
     if 0x1_0000_0000 <= b.answer {
         b.answer
     } else {

@@ -24,17 +24,16 @@ ghost use Rattle.dyadic.specs.Code.{putTagged};
 // To an operand that is no register, found at a.
 fn put_tagged(
     m: &mut [u8],
-    places: &mut [u32; 201],
-    words: &mut [[u8; 4]; 200],
+    journal: &mut [u64; 201],
     q: &mut [[u32; 4]; 16],
     r: &mut [u32; 17],
     t: Tagged,
     d: Operand,
     a: u32,
 ) -> u64
-    ensures { λ z. ⌜ gave (ended (answerOf z) (now (r .exit)) (now (q .exit))) (journaled (now (m .exit)) (now (places .exit)) (now (words .exit))) ≡ interpret logging (putTagged (cpu (now (r .entry)) (now (q .entry))) t (placeAt d a)) (journaled (now (m .entry)) (now (places .entry)) (now (words .entry))) ⌝ }
+    ensures { λ z. ⌜ gave (ended (answerOf z) (now (r .exit)) (now (q .exit))) (journaled (now (m .exit)) (now (journal .exit))) ≡ interpret logging (putTagged (cpu (now (r .entry)) (now (q .entry))) t (placeAt d a)) (journaled (now (m .entry)) (now (journal .entry))) ⌝ }
 {
-    let x = write_at(m, places, words, q, r, d, a, t.value);
+    let x = write_at(m, journal, q, r, d, a, t.value);
     if 0x1_0000_0000 <= x {
         x
     } else {
@@ -46,18 +45,17 @@ fn put_tagged(
 // To an operand found at a.
 fn write_tagged(
     m: &mut [u8],
-    places: &mut [u32; 201],
-    words: &mut [[u8; 4]; 200],
+    journal: &mut [u64; 201],
     q: &mut [[u32; 4]; 16],
     r: &mut [u32; 17],
     t: Tagged,
     d: Operand,
     a: u32,
 ) -> u64
-    ensures { λ z. ⌜ gave (ended (answerOf z) (now (r .exit)) (now (q .exit))) (journaled (now (m .exit)) (now (places .exit)) (now (words .exit))) ≡ interpret logging (writeTagged (cpu (now (r .entry)) (now (q .entry))) t (placeAt d a)) (journaled (now (m .entry)) (now (places .entry)) (now (words .entry))) ⌝ }
+    ensures { λ z. ⌜ gave (ended (answerOf z) (now (r .exit)) (now (q .exit))) (journaled (now (m .exit)) (now (journal .exit))) ≡ interpret logging (writeTagged (cpu (now (r .entry)) (now (q .entry))) t (placeAt d a)) (journaled (now (m .entry)) (now (journal .entry))) ⌝ }
 {
     match d {
-        Operand::General(_, _) => put_tagged(m, places, words, q, r, t, d, a),
+        Operand::General(_, _) => put_tagged(m, journal, q, r, t, d, a),
         Operand::Register(n) => {
             tagged_flags(r, t);
             write_register(r, register_of(n), t.value);
@@ -69,18 +67,17 @@ fn write_tagged(
 // Unless F is set.
 fn store_tagged(
     m: &mut [u8],
-    places: &mut [u32; 201],
-    words: &mut [[u8; 4]; 200],
+    journal: &mut [u64; 201],
     q: &mut [[u32; 4]; 16],
     r: &mut [u32; 17],
     t: Tagged,
     d: Operand,
     a: u32,
 ) -> u64
-    ensures { λ z. ⌜ gave (ended (answerOf z) (now (r .exit)) (now (q .exit))) (journaled (now (m .exit)) (now (places .exit)) (now (words .exit))) ≡ interpret logging (storeTagged (cpu (now (r .entry)) (now (q .entry))) t (placeAt d a)) (journaled (now (m .entry)) (now (places .entry)) (now (words .entry))) ⌝ }
+    ensures { λ z. ⌜ gave (ended (answerOf z) (now (r .exit)) (now (q .exit))) (journaled (now (m .exit)) (now (journal .exit))) ≡ interpret logging (storeTagged (cpu (now (r .entry)) (now (q .entry))) t (placeAt d a)) (journaled (now (m .entry)) (now (journal .entry))) ⌝ }
 {
     if t.stored {
-        write_tagged(m, places, words, q, r, t, d, a)
+        write_tagged(m, journal, q, r, t, d, a)
     } else {
         tagged_flags(r, t);
         good(0)
@@ -90,8 +87,7 @@ fn store_tagged(
 // The result of destination y and source x.
 fn tagged_with(
     m: &mut [u8],
-    places: &mut [u32; 201],
-    words: &mut [[u8; 4]; 200],
+    journal: &mut [u64; 201],
     q: &mut [[u32; 4]; 16],
     r: &mut [u32; 17],
     minus: bool,
@@ -100,17 +96,16 @@ fn tagged_with(
     x: u32,
     y: u32,
 ) -> u64
-    ensures { λ z. ⌜ gave (ended (answerOf z) (now (r .exit)) (now (q .exit))) (journaled (now (m .exit)) (now (places .exit)) (now (words .exit))) ≡ interpret logging (storeTagged (cpu (now (r .entry)) (now (q .entry))) (taggedOf minus (cpu (now (r .entry)) (now (q .entry))) y x) (placeAt d a)) (journaled (now (m .entry)) (now (places .entry)) (now (words .entry))) ⌝ }
+    ensures { λ z. ⌜ gave (ended (answerOf z) (now (r .exit)) (now (q .exit))) (journaled (now (m .exit)) (now (journal .exit))) ≡ interpret logging (storeTagged (cpu (now (r .entry)) (now (q .entry))) (taggedOf minus (cpu (now (r .entry)) (now (q .entry))) y x) (placeAt d a)) (journaled (now (m .entry)) (now (journal .entry))) ⌝ }
 {
     let t = tagged(minus, r[6], y, x);
-    store_tagged(m, places, words, q, r, t, d, a)
+    store_tagged(m, journal, q, r, t, d, a)
 }
 
 // TSUB or TADD.
 pub fn compute_tagged(
     m: &mut [u8],
-    places: &mut [u32; 201],
-    words: &mut [[u8; 4]; 200],
+    journal: &mut [u64; 201],
     q: &mut [[u32; 4]; 16],
     r: &mut [u32; 17],
     wide: Wide,
@@ -118,16 +113,15 @@ pub fn compute_tagged(
     s: Operand,
     d: Operand,
 ) -> u64
-    ensures { λ z. ⌜ gave (ended (answerOf z) (now (r .exit)) (now (q .exit))) (journaled (now (m .exit)) (now (places .exit)) (now (words .exit))) ≡ interpret logging (computeTagged (cpu (now (r .entry)) (now (q .entry))) wide minus s d) (journaled (now (m .entry)) (now (places .entry)) (now (words .entry))) ⌝ }
+    ensures { λ z. ⌜ gave (ended (answerOf z) (now (r .exit)) (now (q .exit))) (journaled (now (m .exit)) (now (journal .exit))) ≡ interpret logging (computeTagged (cpu (now (r .entry)) (now (q .entry))) wide minus s d) (journaled (now (m .entry)) (now (journal .entry))) ⌝ }
 {
-    let b = read_both(m, places, words, q, r, wide, s, d);
+    let b = read_both(m, journal, q, r, wide, s, d);
     if 0x1_0000_0000 <= b.answer {
         b.answer
     } else {
         tagged_with(
             m,
-            places,
-            words,
+            journal,
             q,
             r,
             minus,

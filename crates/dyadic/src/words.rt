@@ -58,15 +58,14 @@ fn scalar(r: &[u32; 17], o: Operand) -> u32
 // Two words from a on.
 fn load_pair(
     m: &mut [u8],
-    places: &mut [u32; 201],
-    words: &mut [[u8; 4]; 200],
+    journal: &mut [u64; 201],
     q: &[[u32; 4]; 16],
     r: &mut [u32; 17],
     a: u32,
 ) -> Words
-    ensures { λ z. ⌜ ((f : ℕ → ℕ → Program (Out Cpu)) → interpret logging (resumed (λ y. f (z .w0) y) (answerOf (z .answer)) (now (r .exit)) (now (q .entry))) (journaled (now (m .exit)) (now (places .exit)) (now (words .exit))) ≡ interpret logging (loading (cpu (now (r .entry)) (now (q .entry))) a f) (journaled (now (m .entry)) (now (places .entry)) (now (words .entry)))) × (z .answer < 2 ^ 32 → now (r .exit) ≡ now (r .entry)) ⌝ }
+    ensures { λ z. ⌜ ((f : ℕ → ℕ → Program (Out Cpu)) → interpret logging (resumed (λ y. f (z .w0) y) (answerOf (z .answer)) (now (r .exit)) (now (q .entry))) (journaled (now (m .exit)) (now (journal .exit))) ≡ interpret logging (loading (cpu (now (r .entry)) (now (q .entry))) a f) (journaled (now (m .entry)) (now (journal .entry)))) × (z .answer < 2 ^ 32 → now (r .exit) ≡ now (r .entry)) ⌝ }
 {
-    let x = load(m, places, words, q, r, Width::Word, a);
+    let x = load(m, journal, q, r, Width::Word, a);
     if 0x1_0000_0000 <= x {
         Words {
             answer: x,
@@ -75,7 +74,7 @@ fn load_pair(
             w2: 0,
         }
     } else {
-        let y = load(m, places, words, q, r, Width::Word, plus(a, 4));
+        let y = load(m, journal, q, r, Width::Word, plus(a, 4));
         Words {
             answer: y,
             w0: low32(x),
@@ -88,15 +87,14 @@ fn load_pair(
 // Four.
 fn load_four(
     m: &mut [u8],
-    places: &mut [u32; 201],
-    words: &mut [[u8; 4]; 200],
+    journal: &mut [u64; 201],
     q: &[[u32; 4]; 16],
     r: &mut [u32; 17],
     a: u32,
 ) -> Words
-    ensures { λ z. ⌜ ((f : ℕ → ℕ → ℕ → ℕ → Program (Out Cpu)) → interpret logging (resumed (λ y. f (z .w0) (z .w1) (z .w2) y) (answerOf (z .answer)) (now (r .exit)) (now (q .entry))) (journaled (now (m .exit)) (now (places .exit)) (now (words .exit))) ≡ interpret logging (loading (cpu (now (r .entry)) (now (q .entry))) a (λ x y. loading (cpu (now (r .entry)) (now (q .entry))) (plusOf (plusOf a 4) 4) (λ u v. f x y u v))) (journaled (now (m .entry)) (now (places .entry)) (now (words .entry)))) × (z .answer < 2 ^ 32 → now (r .exit) ≡ now (r .entry)) ⌝ }
+    ensures { λ z. ⌜ ((f : ℕ → ℕ → ℕ → ℕ → Program (Out Cpu)) → interpret logging (resumed (λ y. f (z .w0) (z .w1) (z .w2) y) (answerOf (z .answer)) (now (r .exit)) (now (q .entry))) (journaled (now (m .exit)) (now (journal .exit))) ≡ interpret logging (loading (cpu (now (r .entry)) (now (q .entry))) a (λ x y. loading (cpu (now (r .entry)) (now (q .entry))) (plusOf (plusOf a 4) 4) (λ u v. f x y u v))) (journaled (now (m .entry)) (now (journal .entry)))) × (z .answer < 2 ^ 32 → now (r .exit) ≡ now (r .entry)) ⌝ }
 {
-    let p = load_pair(m, places, words, q, r, a);
+    let p = load_pair(m, journal, q, r, a);
     if 0x1_0000_0000 <= p.answer {
         Words {
             answer: p.answer,
@@ -106,7 +104,7 @@ fn load_four(
         }
     } else {
         let l = low32(p.answer);
-        let s = load_pair(m, places, words, q, r, plus(plus(a, 4), 4));
+        let s = load_pair(m, journal, q, r, plus(plus(a, 4), 4));
         Words {
             answer: s.answer,
             w0: p.w0,
@@ -119,15 +117,14 @@ fn load_four(
 // The words of an operand found at a.
 pub fn read_many(
     m: &mut [u8],
-    places: &mut [u32; 201],
-    words: &mut [[u8; 4]; 200],
+    journal: &mut [u64; 201],
     q: &[[u32; 4]; 16],
     r: &mut [u32; 17],
     double: bool,
     o: Operand,
     a: u32,
 ) -> Words
-    ensures { λ z. ⌜ ((f : List ℕ → Program (Out Cpu)) → interpret logging (resumed (λ y. f (wordsOf double (z .w0) (z .w1) (z .w2) y)) (answerOf (z .answer)) (now (r .exit)) (now (q .entry))) (journaled (now (m .exit)) (now (places .exit)) (now (words .exit))) ≡ interpret logging (manyThen (cpu (now (r .entry)) (now (q .entry))) double (placeAt o a) f) (journaled (now (m .entry)) (now (places .entry)) (now (words .entry)))) × (z .answer < 2 ^ 32 → now (r .exit) ≡ now (r .entry)) ⌝ }
+    ensures { λ z. ⌜ ((f : List ℕ → Program (Out Cpu)) → interpret logging (resumed (λ y. f (wordsOf double (z .w0) (z .w1) (z .w2) y)) (answerOf (z .answer)) (now (r .exit)) (now (q .entry))) (journaled (now (m .exit)) (now (journal .exit))) ≡ interpret logging (manyThen (cpu (now (r .entry)) (now (q .entry))) double (placeAt o a) f) (journaled (now (m .entry)) (now (journal .entry)))) × (z .answer < 2 ^ 32 → now (r .exit) ≡ now (r .entry)) ⌝ }
 {
     if is_scalar(o) {
         let v = scalar(r, o);
@@ -140,7 +137,7 @@ pub fn read_many(
     } else {
         if double {
             if a % 8 == 0 {
-                load_pair(m, places, words, q, r, a)
+                load_pair(m, journal, q, r, a)
             } else {
                 Words {
                     answer: raised(4),
@@ -151,7 +148,7 @@ pub fn read_many(
             }
         } else {
             if a % 16 == 0 {
-                load_four(m, places, words, q, r, a)
+                load_four(m, journal, q, r, a)
             } else {
                 Words {
                     answer: raised(4),
@@ -167,50 +164,47 @@ pub fn read_many(
 // Two words to a and on.
 fn store_pair(
     m: &mut [u8],
-    places: &mut [u32; 201],
-    words: &mut [[u8; 4]; 200],
+    journal: &mut [u64; 201],
     q: &mut [[u32; 4]; 16],
     r: &mut [u32; 17],
     a: u32,
     x: u32,
     y: u32,
 ) -> u64
-    ensures { λ z. ⌜ ((f : Cpu → Program (Out Cpu)) → interpret logging (followed f (answerOf z) (now (r .exit)) (now (q .exit))) (journaled (now (m .exit)) (now (places .exit)) (now (words .exit))) ≡ interpret logging (storing (cpu (now (r .entry)) (now (q .entry))) a x y f) (journaled (now (m .entry)) (now (places .entry)) (now (words .entry)))) ⌝ }
+    ensures { λ z. ⌜ ((f : Cpu → Program (Out Cpu)) → interpret logging (followed f (answerOf z) (now (r .exit)) (now (q .exit))) (journaled (now (m .exit)) (now (journal .exit))) ≡ interpret logging (storing (cpu (now (r .entry)) (now (q .entry))) a x y f) (journaled (now (m .entry)) (now (journal .entry)))) ⌝ }
 {
-    let e = store(m, places, words, q, r, Width::Word, a, x);
+    let e = store(m, journal, q, r, Width::Word, a, x);
     if 0x1_0000_0000 <= e {
         e
     } else {
-        store(m, places, words, q, r, Width::Word, plus(a, 4), y)
+        store(m, journal, q, r, Width::Word, plus(a, 4), y)
     }
 }
 
 // Four.
 fn store_four(
     m: &mut [u8],
-    places: &mut [u32; 201],
-    words: &mut [[u8; 4]; 200],
+    journal: &mut [u64; 201],
     q: &mut [[u32; 4]; 16],
     r: &mut [u32; 17],
     a: u32,
     w: Words,
     y: u32,
 ) -> u64
-    ensures { λ z. ⌜ gave (ended (answerOf z) (now (r .exit)) (now (q .exit))) (journaled (now (m .exit)) (now (places .exit)) (now (words .exit))) ≡ interpret logging (writeWords (cpu (now (r .entry)) (now (q .entry))) a (w .w0 ∷ w .w1 ∷ w .w2 ∷ y ∷ [])) (journaled (now (m .entry)) (now (places .entry)) (now (words .entry))) ⌝ }
+    ensures { λ z. ⌜ gave (ended (answerOf z) (now (r .exit)) (now (q .exit))) (journaled (now (m .exit)) (now (journal .exit))) ≡ interpret logging (writeWords (cpu (now (r .entry)) (now (q .entry))) a (w .w0 ∷ w .w1 ∷ w .w2 ∷ y ∷ [])) (journaled (now (m .entry)) (now (journal .entry))) ⌝ }
 {
-    let e = store_pair(m, places, words, q, r, a, w.w0, w.w1);
+    let e = store_pair(m, journal, q, r, a, w.w0, w.w1);
     if 0x1_0000_0000 <= e {
         e
     } else {
-        store_pair(m, places, words, q, r, plus(plus(a, 4), 4), w.w2, y)
+        store_pair(m, journal, q, r, plus(plus(a, 4), 4), w.w2, y)
     }
 }
 
 // To an operand found at a.
 pub fn write_many(
     m: &mut [u8],
-    places: &mut [u32; 201],
-    words: &mut [[u8; 4]; 200],
+    journal: &mut [u64; 201],
     q: &mut [[u32; 4]; 16],
     r: &mut [u32; 17],
     double: bool,
@@ -219,20 +213,20 @@ pub fn write_many(
     w: Words,
     y: u32,
 ) -> u64
-    ensures { λ z. ⌜ gave (ended (answerOf z) (now (r .exit)) (now (q .exit))) (journaled (now (m .exit)) (now (places .exit)) (now (words .exit))) ≡ interpret logging (writeMany (cpu (now (r .entry)) (now (q .entry))) (countOf double) (placeAt o a) (wordsOf double (w .w0) (w .w1) (w .w2) y)) (journaled (now (m .entry)) (now (places .entry)) (now (words .entry))) ⌝ }
+    ensures { λ z. ⌜ gave (ended (answerOf z) (now (r .exit)) (now (q .exit))) (journaled (now (m .exit)) (now (journal .exit))) ≡ interpret logging (writeMany (cpu (now (r .entry)) (now (q .entry))) (countOf double) (placeAt o a) (wordsOf double (w .w0) (w .w1) (w .w2) y)) (journaled (now (m .entry)) (now (journal .entry))) ⌝ }
 {
     if is_scalar(o) {
         good(0)
     } else {
         if double {
             if a % 8 == 0 {
-                store_pair(m, places, words, q, r, a, w.w0, y)
+                store_pair(m, journal, q, r, a, w.w0, y)
             } else {
                 raised(4)
             }
         } else {
             if a % 16 == 0 {
-                store_four(m, places, words, q, r, a, w, y)
+                store_four(m, journal, q, r, a, w, y)
             } else {
                 raised(4)
             }

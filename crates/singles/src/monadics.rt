@@ -16,8 +16,7 @@ ghost use Rattle.exec.specs.Execute.{executeMonadic};
 // n is the parcels of the instruction.
 pub fn execute_monadic(
     m: &mut [u8],
-    places: &mut [u32; 201],
-    words: &mut [[u8; 4]; 200],
+    journal: &mut [u64; 201],
     q: &mut [[u32; 4]; 16],
     r: &mut [u32; 17],
     o: Monadic,
@@ -25,24 +24,24 @@ pub fn execute_monadic(
     v: u32,
     n: u32,
 ) -> u64
-    ensures { λ x. ⌜ gave (ended (answerOf x) (now (r .exit)) (now (q .exit))) (journaled (now (m .exit)) (now (places .exit)) (now (words .exit))) ≡ interpret logging (executeMonadic (cpu (now (r .entry)) (now (q .entry))) o mode v n) (journaled (now (m .entry)) (now (places .entry)) (now (words .entry))) ⌝ }
+    ensures { λ x. ⌜ gave (ended (answerOf x) (now (r .exit)) (now (q .exit))) (journaled (now (m .exit)) (now (journal .exit))) ≡ interpret logging (executeMonadic (cpu (now (r .entry)) (now (q .entry))) o mode v n) (journaled (now (m .entry)) (now (journal .entry))) ⌝ }
 {
     match o {
-        Monadic::Kcall => frames::kernel::kcall(m, places, words, q, r, mode, v, n),
-        Monadic::Call => control::flow::call(m, places, words, q, r, mode, v, n),
-        Monadic::Return => control::flow::return_from(m, places, words, q, r, v),
-        Monadic::Jmp => control::flow::jump(m, places, words, q, r, mode, v),
+        Monadic::Kcall => frames::kernel::kcall(m, journal, q, r, mode, v, n),
+        Monadic::Call => control::flow::call(m, journal, q, r, mode, v, n),
+        Monadic::Return => control::flow::return_from(m, journal, q, r, v),
+        Monadic::Jmp => control::flow::jump(m, journal, q, r, mode, v),
         Monadic::JmpFalse => {
             let f = flag(r[6]);
-            control::flow::jump_if(m, places, words, q, r, !f, mode, v, n)
+            control::flow::jump_if(m, journal, q, r, !f, mode, v, n)
         }
         Monadic::JmpTrue => {
             let f = flag(r[6]);
-            control::flow::jump_if(m, places, words, q, r, f, mode, v, n)
+            control::flow::jump_if(m, journal, q, r, f, mode, v, n)
         }
-        Monadic::Catch => stacks::catches::catch(m, places, words, q, r, mode, v, n),
-        Monadic::Enter => stacks::enters::enter(m, places, words, q, r, mode, v, n),
-        Monadic::Ldraa => control::flow::load_address(m, places, words, q, r, mode, v, n),
+        Monadic::Catch => stacks::catches::catch(m, journal, q, r, mode, v, n),
+        Monadic::Enter => stacks::enters::enter(m, journal, q, r, mode, v, n),
+        Monadic::Ldraa => control::flow::load_address(m, journal, q, r, mode, v, n),
         Monadic::Flush => {
             advanced(r, n);
             0

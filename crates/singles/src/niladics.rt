@@ -18,49 +18,46 @@ ghost use Rattle.exec.specs.Execute.{executeNiladic};
 // At user level it is exception 5.
 fn kret_privileged(
     m: &mut [u8],
-    places: &mut [u32; 201],
-    words: &mut [[u8; 4]; 200],
+    journal: &mut [u64; 201],
     q: &[[u32; 4]; 16],
     r: &mut [u32; 17],
 ) -> u64
-    ensures { λ x. ⌜ gave (ended (answerOf x) (now (r .exit)) (now (q .entry))) (journaled (now (m .exit)) (now (places .exit)) (now (words .exit))) ≡ interpret logging (privileged (cpu (now (r .entry)) (now (q .entry))) (kret (cpu (now (r .entry)) (now (q .entry))))) (journaled (now (m .entry)) (now (places .entry)) (now (words .entry))) ⌝ }
+    ensures { λ x. ⌜ gave (ended (answerOf x) (now (r .exit)) (now (q .entry))) (journaled (now (m .exit)) (now (journal .exit))) ≡ interpret logging (privileged (cpu (now (r .entry)) (now (q .entry))) (kret (cpu (now (r .entry)) (now (q .entry))))) (journaled (now (m .entry)) (now (journal .entry))) ⌝ }
 {
     if is_user(r) {
         raised(5)
     } else {
-        frames::kernel::kret(m, places, words, q, r)
+        frames::kernel::kret(m, journal, q, r)
     }
 }
 
 fn cret_privileged(
     m: &mut [u8],
-    places: &mut [u32; 201],
-    words: &mut [[u8; 4]; 200],
+    journal: &mut [u64; 201],
     q: &mut [[u32; 4]; 16],
     r: &mut [u32; 17],
 ) -> u64
-    ensures { λ x. ⌜ gave (ended (answerOf x) (now (r .exit)) (now (q .exit))) (journaled (now (m .exit)) (now (places .exit)) (now (words .exit))) ≡ interpret logging (privileged (cpu (now (r .entry)) (now (q .entry))) (cret (cpu (now (r .entry)) (now (q .entry))))) (journaled (now (m .entry)) (now (places .entry)) (now (words .entry))) ⌝ }
+    ensures { λ x. ⌜ gave (ended (answerOf x) (now (r .exit)) (now (q .exit))) (journaled (now (m .exit)) (now (journal .exit))) ≡ interpret logging (privileged (cpu (now (r .entry)) (now (q .entry))) (cret (cpu (now (r .entry)) (now (q .entry))))) (journaled (now (m .entry)) (now (journal .entry))) ⌝ }
 {
     if is_user(r) {
         raised(5)
     } else {
-        stacks::returns::cret(m, places, words, q, r)
+        stacks::returns::cret(m, journal, q, r)
     }
 }
 
 pub fn execute_niladic(
     m: &mut [u8],
-    places: &mut [u32; 201],
-    words: &mut [[u8; 4]; 200],
+    journal: &mut [u64; 201],
     q: &mut [[u32; 4]; 16],
     r: &mut [u32; 17],
     o: Niladic,
 ) -> u64
-    ensures { λ x. ⌜ gave (ended (answerOf x) (now (r .exit)) (now (q .exit))) (journaled (now (m .exit)) (now (places .exit)) (now (words .exit))) ≡ interpret logging (executeNiladic (cpu (now (r .entry)) (now (q .entry))) o) (journaled (now (m .entry)) (now (places .entry)) (now (words .entry))) ⌝ }
+    ensures { λ x. ⌜ gave (ended (answerOf x) (now (r .exit)) (now (q .exit))) (journaled (now (m .exit)) (now (journal .exit))) ≡ interpret logging (executeNiladic (cpu (now (r .entry)) (now (q .entry))) o) (journaled (now (m .entry)) (now (journal .entry))) ⌝ }
 {
     match o {
-        Niladic::Kret => kret_privileged(m, places, words, q, r),
-        Niladic::Cret => cret_privileged(m, places, words, q, r),
+        Niladic::Kret => kret_privileged(m, journal, q, r),
+        Niladic::Cret => cret_privileged(m, journal, q, r),
         Niladic::Nop => {
             advanced(r, 1);
             0

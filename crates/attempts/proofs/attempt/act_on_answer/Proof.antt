@@ -42,25 +42,25 @@ same-length : tie.Need-same-length
 same-length c = search needs
 
 returns : tie.Need-returns
-returns c = answer-met (c .before .before .before .before .before .before .before .before .before .before .before .before .args .confined) (cpu (c .before .before .before .before .before .before .before .before .before .before .before .before .args .r .now) (c .before .before .before .before .before .before .before .before .before .before .before .before .args .q .now)) (c .before .before .before .before .before .before .before .before .before .before .before .before .args .a) (journaled (c .before .before .before .before .before .before .before .before .before .before .before .before .args .m .now) (c .before .before .before .before .before .before .before .before .before .before .before .before .args .places .now) (c .before .before .before .before .before .before .before .before .before .before .before .before .args .words .now)) _ _ (ap (λ (x : Answer). met (cpu (c .before .before .before .before .before .before .before .before .before .before .before .before .args .r .now) (c .before .before .before .before .before .before .before .before .before .before .before .before .args .q .now)) x) (c .before .before .before .before .before .before .before .before .before .a .given .1)) (c .before .before .act-on .ensures)
+returns c = answer-met (c .before .before .before .before .before .before .before .before .before .before .before .args .confined) (cpu (c .before .before .before .before .before .before .before .before .before .before .before .args .r .now) (c .before .before .before .before .before .before .before .before .before .before .before .args .q .now)) (c .before .before .before .before .before .before .before .before .before .before .before .args .a) (journaled (c .before .before .before .before .before .before .before .before .before .before .before .args .m .now) (c .before .before .before .before .before .before .before .before .before .before .before .args .journal .now)) _ _ (ap (λ (x : Answer). met (cpu (c .before .before .before .before .before .before .before .before .before .before .before .args .r .now) (c .before .before .before .before .before .before .before .before .before .before .before .args .q .now)) x) (c .before .before .before .before .before .before .before .before .a .given .1)) (c .before .before .act-on .ensures)
 
 returns-2 : tie.Need-returns-2
-returns-2 c = answer-illegal (c .before .before .before .before .args .confined) (c .before .before .before .before .args .r .now) (c .before .before .before .before .args .q .now) (c .before .before .before .before .args .a) (journaled (c .before .before .before .before .args .m .now) (c .before .before .before .before .args .places .now) (c .before .before .before .before .args .words .now)) _ (c .raised .ensures) (ap (λ (x : Answer). met (cpu (c .before .before .before .before .args .r .now) (c .before .before .before .before .args .q .now)) x) (c .before .enum-told .given .1))
+returns-2 c = answer-illegal (c .before .before .before .before .args .confined) (c .before .before .before .before .args .r .now) (c .before .before .before .before .args .q .now) (c .before .before .before .before .args .a) (journaled (c .before .before .before .before .args .m .now) (c .before .before .before .before .args .journal .now)) _ (c .raised .ensures) (ap (λ (x : Answer). met (cpu (c .before .before .before .before .args .r .now) (c .before .before .before .before .args .q .now)) x) (c .before .enum-told .given .1))
 
 same-length-2 : tie.Need-same-length-2
 same-length-2 c = search needs
 
 returns-3 : tie.Need-returns-3
-returns-3 c = answer-met (c .before .before .before .before .before .before .before .before .before .before .before .args .confined) (cpu (c .before .before .before .before .before .before .before .before .before .before .before .args .r .now) (c .before .before .before .before .before .before .before .before .before .before .before .args .q .now)) (c .before .before .before .before .before .before .before .before .before .before .before .args .a) (journaled (c .before .before .before .before .before .before .before .before .before .before .before .args .m .now) (c .before .before .before .before .before .before .before .before .before .before .before .args .places .now) (c .before .before .before .before .before .before .before .before .before .before .before .args .words .now)) _ _ (ap (λ (x : Answer). met (cpu (c .before .before .before .before .before .before .before .before .before .before .before .args .r .now) (c .before .before .before .before .before .before .before .before .before .before .before .args .q .now)) x) (c .before .before .before .before .before .before .before .before .enum-told2 .given .1)) (c .before .before .act-unimplemented .ensures)
+returns-3 c = answer-met (c .before .before .before .before .before .before .before .before .before .before .args .confined) (cpu (c .before .before .before .before .before .before .before .before .before .before .args .r .now) (c .before .before .before .before .before .before .before .before .before .before .args .q .now)) (c .before .before .before .before .before .before .before .before .before .before .args .a) (journaled (c .before .before .before .before .before .before .before .before .before .before .args .m .now) (c .before .before .before .before .before .before .before .before .before .before .args .journal .now)) _ _ (ap (λ (x : Answer). met (cpu (c .before .before .before .before .before .before .before .before .before .before .args .r .now) (c .before .before .before .before .before .before .before .before .before .before .args .q .now)) x) (c .before .before .before .before .before .before .before .enum-told2 .given .1)) (c .before .before .act-unimplemented .ensures)
 
 same-length-3 : tie.Need-same-length-3
 same-length-3 c = search needs
 
 returns-4 : tie.Need-returns-4
-returns-4 c = answer-met (c .before .before .before .before .before .before .before .before .before .before .before .args .confined) (cpu (c .before .before .before .before .before .before .before .before .before .before .before .args .r .now) (c .before .before .before .before .before .before .before .before .before .before .before .args .q .now)) (c .before .before .before .before .before .before .before .before .before .before .before .args .a) (journaled (c .before .before .before .before .before .before .before .before .before .before .before .args .m .now) (c .before .before .before .before .before .before .before .before .before .before .before .args .places .now) (c .before .before .before .before .before .before .before .before .before .before .before .args .words .now)) _ _ (ap (λ (x : Answer). met (cpu (c .before .before .before .before .before .before .before .before .before .before .before .args .r .now) (c .before .before .before .before .before .before .before .before .before .before .before .args .q .now)) x) (c .before .before .before .before .before .before .before .before .enum-told3 .given .1)) (c .before .before .act-unimplemented2 .ensures)
+returns-4 c = answer-met (c .before .before .before .before .before .before .before .before .before .before .args .confined) (cpu (c .before .before .before .before .before .before .before .before .before .before .args .r .now) (c .before .before .before .before .before .before .before .before .before .before .args .q .now)) (c .before .before .before .before .before .before .before .before .before .before .args .a) (journaled (c .before .before .before .before .before .before .before .before .before .before .args .m .now) (c .before .before .before .before .before .before .before .before .before .before .args .journal .now)) _ _ (ap (λ (x : Answer). met (cpu (c .before .before .before .before .before .before .before .before .before .before .args .r .now) (c .before .before .before .before .before .before .before .before .before .before .args .q .now)) x) (c .before .before .before .before .before .before .before .enum-told3 .given .1)) (c .before .before .act-unimplemented2 .ensures)
 
 returns-5 : tie.Need-returns-5
-returns-5 c = answer-illegal (c .before .before .before .before .args .confined) (c .before .before .before .before .args .r .now) (c .before .before .before .before .args .q .now) (c .before .before .before .before .args .a) (journaled (c .before .before .before .before .args .m .now) (c .before .before .before .before .args .places .now) (c .before .before .before .before .args .words .now)) _ (c .raised2 .ensures) (ap (λ (x : Answer). met (cpu (c .before .before .before .before .args .r .now) (c .before .before .before .before .args .q .now)) x) (c .before .enum-told4 .given .1))
+returns-5 c = answer-illegal (c .before .before .before .before .args .confined) (c .before .before .before .before .args .r .now) (c .before .before .before .before .args .q .now) (c .before .before .before .before .args .a) (journaled (c .before .before .before .before .args .m .now) (c .before .before .before .before .args .journal .now)) _ (c .raised2 .ensures) (ap (λ (x : Answer). met (cpu (c .before .before .before .before .args .r .now) (c .before .before .before .before .args .q .now)) x) (c .before .enum-told4 .given .1))
 
 pub act-on-answer-spec : {M : Type 1} → statement M
 act-on-answer-spec =

@@ -22,13 +22,13 @@ same-length : tie.Need-same-length
 same-length c = search needs
 
 returns : tie.Need-returns
-returns c = (λ f. place-fault (c .before .before .before .before .before .before .before .before .before .before .args .r .now) _ (c .before .before .before .before .before .before .before .before .before .before .args .q .now) (c .before .before .before .before .before .before .before .before .before .before .args .d) _ _ (journaled (c .before .before .before .before .before .before .before .before .before .before .args .m .now) (c .before .before .before .before .before .before .before .before .before .before .args .places .now) (c .before .before .before .before .before .before .before .before .before .before .args .words .now)) _ (f (c .before .before .before .before .find .result .source)) (c .before .before .before .before .find .ensures .0 (λ x p. readPlace (cpu (c .before .before .before .before .before .before .before .before .before .before .args .r .now) (c .before .before .before .before .before .before .before .before .before .before .args .q .now)) p >>= (λ y. f x p y))) (λ y. f 0 (placeAt (c .before .before .before .before .before .before .before .before .before .before .args .d) 0) y) (c .if1 .taken), c .before .before .before .before .find .ensures .1)
+returns c = (λ f. place-fault (c .before .before .before .before .before .before .before .before .before .args .r .now) _ (c .before .before .before .before .before .before .before .before .before .args .q .now) (c .before .before .before .before .before .before .before .before .before .args .d) _ _ (journaled (c .before .before .before .before .before .before .before .before .before .args .m .now) (c .before .before .before .before .before .before .before .before .before .args .journal .now)) _ (f (c .before .before .before .before .find .result .source)) (c .before .before .before .before .find .ensures .0 (λ x p. readPlace (cpu (c .before .before .before .before .before .before .before .before .before .args .r .now) (c .before .before .before .before .before .before .before .before .before .args .q .now)) p >>= (λ y. f x p y))) (λ y. f 0 (placeAt (c .before .before .before .before .before .before .before .before .before .args .d) 0) y) (c .if1 .taken), c .before .before .before .before .find .ensures .1)
 
 same-length-2 : tie.Need-same-length-2
-same-length-2 c = c .before .before .read-at .kept .0 ∙ c .before .before .before .before .before .before .before .before .before .before .before .before .find .kept .0
+same-length-2 c = c .before .before .read-at .kept .0 ∙ c .before .before .before .before .before .before .before .before .before .before .before .find .kept .0
 
 returns-2 : tie.Need-returns-2
-returns-2 c = (λ f. both-read (c .before .before .before .before .before .before .before .before .before .before .before .before .before .before .before .before .before .before .args .r .now) _ (c .before .before .before .before .before .before .before .before .before .before .before .before .before .before .before .before .before .before .args .q .now) (c .before .before .before .before .before .before .before .before .before .before .before .before .before .before .before .before .before .before .args .d) _ _ (journaled (c .before .before .before .before .before .before .before .before .before .before .before .before .before .before .before .before .before .before .args .m .now) (c .before .before .before .before .before .before .before .before .before .before .before .before .before .before .before .before .before .before .args .places .now) (c .before .before .before .before .before .before .before .before .before .before .before .before .before .before .before .before .before .before .args .words .now)) _ (f (c .before .before .before .before .before .before .before .before .before .before .before .before .find .result .source)) (c .before .before .before .before .before .before .before .before .before .before .before .before .find .ensures .0 (λ x p. readPlace (cpu (c .before .before .before .before .before .before .before .before .before .before .before .before .before .before .before .before .before .before .args .r .now) (c .before .before .before .before .before .before .before .before .before .before .before .before .before .before .before .before .before .before .args .q .now)) p >>= (λ y. f x p y))) (c .before .before .before .before .before .before .before .before .if1 .left) (c .before .before .before .before .before .before .before .before .before .before .before .before .find .ensures .1 (c .before .before .before .before .before .before .before .before .if1 .left)) _ (c .before .before .before .before .before .before .before .low32 .ensures) _ _ _ (c .before .before .read-at .ensures .0), λ h. c .before .before .read-at .ensures .1 h ∙ (c .before .before .before .before .before .before .before .before .before .before .before .before .find .ensures .1 (c .before .before .before .before .before .before .before .before .if1 .left)))
+returns-2 c = (λ f. both-read (c .before .before .before .before .before .before .before .before .before .before .before .before .before .before .before .before .args .r .now) _ (c .before .before .before .before .before .before .before .before .before .before .before .before .before .before .before .before .args .q .now) (c .before .before .before .before .before .before .before .before .before .before .before .before .before .before .before .before .args .d) _ _ (journaled (c .before .before .before .before .before .before .before .before .before .before .before .before .before .before .before .before .args .m .now) (c .before .before .before .before .before .before .before .before .before .before .before .before .before .before .before .before .args .journal .now)) _ (f (c .before .before .before .before .before .before .before .before .before .before .before .find .result .source)) (c .before .before .before .before .before .before .before .before .before .before .before .find .ensures .0 (λ x p. readPlace (cpu (c .before .before .before .before .before .before .before .before .before .before .before .before .before .before .before .before .args .r .now) (c .before .before .before .before .before .before .before .before .before .before .before .before .before .before .before .before .args .q .now)) p >>= (λ y. f x p y))) (c .before .before .before .before .before .before .before .if1 .left) (c .before .before .before .before .before .before .before .before .before .before .before .find .ensures .1 (c .before .before .before .before .before .before .before .if1 .left)) _ (c .before .before .before .before .before .before .low32 .ensures) _ _ _ (c .before .before .read-at .ensures .0), λ h. c .before .before .read-at .ensures .1 h ∙ (c .before .before .before .before .before .before .before .before .before .before .before .find .ensures .1 (c .before .before .before .before .before .before .before .if1 .left)))
 
 pub read-both-spec : {M : Type 1} → statement M
 read-both-spec =

@@ -25,14 +25,14 @@ same-length c = search needs
 
 returns : tie.Need-returns
 unfolding moveAddress
-returns c = part-stops (placeAt (c .before .before .before .before .before .before .before .before .before .before .args .s)) (c .before .before .before .before .before .before .before .before .before .before .args .r .now) _ (c .before .before .before .before .before .before .before .before .before .before .args .q .now) _ _ (journaled (c .before .before .before .before .before .before .before .before .before .before .args .m .now) (c .before .before .before .before .before .before .before .before .before .before .args .places .now) (c .before .before .before .before .before .before .before .before .before .before .args .words .now)) _ (c .before .before .before .locate-at .ensures .0) (λ k p. moveTo k (c .before .before .before .before .before .before .before .before .before .before .args .wide) (c .before .before .before .before .before .before .before .before .before .before .args .d) (placeAddress p)) (c .if1 .taken)
+returns c = part-stops (placeAt (c .before .before .before .before .before .before .before .before .before .args .s)) (c .before .before .before .before .before .before .before .before .before .args .r .now) _ (c .before .before .before .before .before .before .before .before .before .args .q .now) _ _ (journaled (c .before .before .before .before .before .before .before .before .before .args .m .now) (c .before .before .before .before .before .before .before .before .before .args .journal .now)) _ (c .before .before .before .locate-at .ensures .0) (λ k p. moveTo k (c .before .before .before .before .before .before .before .before .before .args .wide) (c .before .before .before .before .before .before .before .before .before .args .d) (placeAddress p)) (c .if1 .taken)
 
 same-length-2 : tie.Need-same-length-2
-same-length-2 c = c .before .before .move-to .kept .0 ∙ c .before .before .before .before .before .before .before .before .before .before .before .before .before .locate-at .kept .0
+same-length-2 c = c .before .before .move-to .kept .0 ∙ c .before .before .before .before .before .before .before .before .before .before .before .before .locate-at .kept .0
 
 returns-2 : tie.Need-returns-2
 unfolding moveAddress
-returns-2 c = part-goes (placeAt (c .before .before .before .before .before .before .before .before .before .before .before .before .before .before .before .before .before .before .before .before .args .s)) (c .before .before .before .before .before .before .before .before .before .before .before .before .before .before .before .before .before .before .before .before .args .r .now) _ (c .before .before .before .before .before .before .before .before .before .before .before .before .before .before .before .before .before .before .before .before .args .q .now) _ _ (journaled (c .before .before .before .before .before .before .before .before .before .before .before .before .before .before .before .before .before .before .before .before .args .m .now) (c .before .before .before .before .before .before .before .before .before .before .before .before .before .before .before .before .before .before .before .before .args .places .now) (c .before .before .before .before .before .before .before .before .before .before .before .before .before .before .before .before .before .before .before .before .args .words .now)) _ (c .before .before .before .before .before .before .before .before .before .before .before .before .before .locate-at .ensures .0) (λ k p. moveTo k (c .before .before .before .before .before .before .before .before .before .before .before .before .before .before .before .before .before .before .before .before .args .wide) (c .before .before .before .before .before .before .before .before .before .before .before .before .before .before .before .before .before .before .before .before .args .d) (placeAddress p)) (c .before .before .before .before .before .before .before .before .before .before .if1 .left) (c .before .before .before .before .before .before .before .before .before .before .before .before .before .locate-at .ensures .1 (c .before .before .before .before .before .before .before .before .before .before .if1 .left)) _ (c .before .before .before .before .low32 .ensures) _ (address-moved _ _ _ _ _ _ (c .before .before .before .address-of .ensures) _ (c .before .before .move-to .ensures))
+returns-2 c = part-goes (placeAt (c .before .before .before .before .before .before .before .before .before .before .before .before .before .before .before .before .before .before .args .s)) (c .before .before .before .before .before .before .before .before .before .before .before .before .before .before .before .before .before .before .args .r .now) _ (c .before .before .before .before .before .before .before .before .before .before .before .before .before .before .before .before .before .before .args .q .now) _ _ (journaled (c .before .before .before .before .before .before .before .before .before .before .before .before .before .before .before .before .before .before .args .m .now) (c .before .before .before .before .before .before .before .before .before .before .before .before .before .before .before .before .before .before .args .journal .now)) _ (c .before .before .before .before .before .before .before .before .before .before .before .before .locate-at .ensures .0) (λ k p. moveTo k (c .before .before .before .before .before .before .before .before .before .before .before .before .before .before .before .before .before .before .args .wide) (c .before .before .before .before .before .before .before .before .before .before .before .before .before .before .before .before .before .before .args .d) (placeAddress p)) (c .before .before .before .before .before .before .before .before .before .if1 .left) (c .before .before .before .before .before .before .before .before .before .before .before .before .locate-at .ensures .1 (c .before .before .before .before .before .before .before .before .before .if1 .left)) _ (c .before .before .before .before .low32 .ensures) _ (address-moved _ _ _ _ _ _ (c .before .before .before .address-of .ensures) _ (c .before .before .move-to .ensures))
 
 pub move-address-spec : {M : Type 1} → statement M
 move-address-spec =

@@ -23,14 +23,14 @@ same-length c = search needs
 
 returns : tie.Need-returns
 unfolding move
-returns c = rest-stops (c .before .before .before .before .before .before .before .before .before .before .before .args .r .now) _ (c .before .before .before .before .before .before .before .before .before .before .before .args .q .now) _ _ (journaled (c .before .before .before .before .before .before .before .before .before .before .before .args .m .now) (c .before .before .before .before .before .before .before .before .before .before .before .args .places .now) (c .before .before .before .before .before .before .before .before .before .before .before .args .words .now)) _ (λ k a. writePlace k (placeAt (c .before .before .before .before .before .before .before .before .before .before .before .args .d) a) (c .before .before .before .before .find .result .source)) (c .before .before .before .before .find .ensures .0 (λ x p. writePlace (cpu (c .before .before .before .before .before .before .before .before .before .before .before .args .r .now) (c .before .before .before .before .before .before .before .before .before .before .before .args .q .now)) p x)) (c .if1 .taken)
+returns c = rest-stops (c .before .before .before .before .before .before .before .before .before .before .args .r .now) _ (c .before .before .before .before .before .before .before .before .before .before .args .q .now) _ _ (journaled (c .before .before .before .before .before .before .before .before .before .before .args .m .now) (c .before .before .before .before .before .before .before .before .before .before .args .journal .now)) _ (λ k a. writePlace k (placeAt (c .before .before .before .before .before .before .before .before .before .before .args .d) a) (c .before .before .before .before .find .result .source)) (c .before .before .before .before .find .ensures .0 (λ x p. writePlace (cpu (c .before .before .before .before .before .before .before .before .before .before .args .r .now) (c .before .before .before .before .before .before .before .before .before .before .args .q .now)) p x)) (c .if1 .taken)
 
 same-length-2 : tie.Need-same-length-2
-same-length-2 c = c .before .before .write-at .kept .0 ∙ c .before .before .before .before .before .before .before .before .before .before .before .before .before .find .kept .0
+same-length-2 c = c .before .before .write-at .kept .0 ∙ c .before .before .before .before .before .before .before .before .before .before .before .before .find .kept .0
 
 returns-2 : tie.Need-returns-2
 unfolding move
-returns-2 c = rest-goes (c .before .before .before .before .before .before .before .before .before .before .before .before .before .before .before .before .before .before .before .before .args .r .now) _ (c .before .before .before .before .before .before .before .before .before .before .before .before .before .before .before .before .before .before .before .before .args .q .now) _ _ (journaled (c .before .before .before .before .before .before .before .before .before .before .before .before .before .before .before .before .before .before .before .before .args .m .now) (c .before .before .before .before .before .before .before .before .before .before .before .before .before .before .before .before .before .before .before .before .args .places .now) (c .before .before .before .before .before .before .before .before .before .before .before .before .before .before .before .before .before .before .before .before .args .words .now)) _ (λ k a. writePlace k (placeAt (c .before .before .before .before .before .before .before .before .before .before .before .before .before .before .before .before .before .before .before .before .args .d) a) (c .before .before .before .before .before .before .before .before .before .before .before .before .before .find .result .source)) (c .before .before .before .before .before .before .before .before .before .before .before .before .before .find .ensures .0 (λ x p. writePlace (cpu (c .before .before .before .before .before .before .before .before .before .before .before .before .before .before .before .before .before .before .before .before .args .r .now) (c .before .before .before .before .before .before .before .before .before .before .before .before .before .before .before .before .before .before .before .before .args .q .now)) p x)) (c .before .before .before .before .before .before .before .before .before .if1 .left) (c .before .before .before .before .before .before .before .before .before .before .before .before .before .find .ensures .1 (c .before .before .before .before .before .before .before .before .before .if1 .left)) _ (c .before .before .before .low32 .ensures) _ (c .before .before .write-at .ensures)
+returns-2 c = rest-goes (c .before .before .before .before .before .before .before .before .before .before .before .before .before .before .before .before .before .before .args .r .now) _ (c .before .before .before .before .before .before .before .before .before .before .before .before .before .before .before .before .before .before .args .q .now) _ _ (journaled (c .before .before .before .before .before .before .before .before .before .before .before .before .before .before .before .before .before .before .args .m .now) (c .before .before .before .before .before .before .before .before .before .before .before .before .before .before .before .before .before .before .args .journal .now)) _ (λ k a. writePlace k (placeAt (c .before .before .before .before .before .before .before .before .before .before .before .before .before .before .before .before .before .before .args .d) a) (c .before .before .before .before .before .before .before .before .before .before .before .before .find .result .source)) (c .before .before .before .before .before .before .before .before .before .before .before .before .find .ensures .0 (λ x p. writePlace (cpu (c .before .before .before .before .before .before .before .before .before .before .before .before .before .before .before .before .before .before .args .r .now) (c .before .before .before .before .before .before .before .before .before .before .before .before .before .before .before .before .before .before .args .q .now)) p x)) (c .before .before .before .before .before .before .before .before .if1 .left) (c .before .before .before .before .before .before .before .before .before .before .before .before .find .ensures .1 (c .before .before .before .before .before .before .before .before .if1 .left)) _ (c .before .before .before .low32 .ensures) _ (c .before .before .write-at .ensures)
 
 pub move-operand-spec : {M : Type 1} → statement M
 move-operand-spec =

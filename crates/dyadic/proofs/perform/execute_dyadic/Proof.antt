@@ -11,13 +11,13 @@ perform-requires : tie.Need-perform-requires
 perform-requires c κs = search needs
 
 returns : tie.Need-returns
-returns c = check-stops (c .before .before .before .before .args .r .now) (c .before .before .before .before .args .q .now) (c .before .before .before .before .args .wide) (c .before .before .before .before .args .task) (c .before .before .before .before .args .s) (c .before .before .before .before .args .d) _ (journaled (c .before .before .before .before .args .m .now) (c .before .before .before .before .args .places .now) (c .before .before .before .before .args .words .now)) (c .before .check-registers .ensures) (c .if1 .taken)
+returns c = check-stops (c .before .before .before .before .args .r .now) (c .before .before .before .before .args .q .now) (c .before .before .before .before .args .wide) (c .before .before .before .before .args .task) (c .before .before .before .before .args .s) (c .before .before .before .before .args .d) _ (journaled (c .before .before .before .before .args .m .now) (c .before .before .before .before .args .journal .now)) (c .before .check-registers .ensures) (c .if1 .taken)
 
 same-length : tie.Need-same-length
 same-length c = search needs
 
 returns-2 : tie.Need-returns-2
-returns-2 c = check-goes (c .before .before .before .before .before .before .before .before .before .before .before .before .args .r .now) (c .before .before .before .before .before .before .before .before .before .before .before .before .args .q .now) (c .before .before .before .before .before .before .before .before .before .before .before .before .args .wide) (c .before .before .before .before .before .before .before .before .before .before .before .before .args .task) (c .before .before .before .before .before .before .before .before .before .before .before .before .args .s) (c .before .before .before .before .before .before .before .before .before .before .before .before .args .d) _ (journaled (c .before .before .before .before .before .before .before .before .before .before .before .before .args .m .now) (c .before .before .before .before .before .before .before .before .before .before .before .before .args .places .now) (c .before .before .before .before .before .before .before .before .before .before .before .before .args .words .now)) (c .before .before .before .before .before .before .before .before .before .check-registers .ensures) (c .before .before .before .before .before .before .before .before .if1 .left) _ (c .before .before .perform .ensures)
+returns-2 c = check-goes (c .before .before .before .before .before .before .before .before .before .before .before .args .r .now) (c .before .before .before .before .before .before .before .before .before .before .before .args .q .now) (c .before .before .before .before .before .before .before .before .before .before .before .args .wide) (c .before .before .before .before .before .before .before .before .before .before .before .args .task) (c .before .before .before .before .before .before .before .before .before .before .before .args .s) (c .before .before .before .before .before .before .before .before .before .before .before .args .d) _ (journaled (c .before .before .before .before .before .before .before .before .before .before .before .args .m .now) (c .before .before .before .before .before .before .before .before .before .before .before .args .journal .now)) (c .before .before .before .before .before .before .before .before .check-registers .ensures) (c .before .before .before .before .before .before .before .if1 .left) _ (c .before .before .perform .ensures)
 
 pub execute-dyadic-spec : {M : Type 1} → statement M
 execute-dyadic-spec =

@@ -27,14 +27,14 @@ same-length c = search needs
 
 returns : tie.Need-returns
 unfolding moveWords
-returns c = part-stops (placeAt (c .before .before .before .before .before .before .before .before .before .before .before .args .s)) (c .before .before .before .before .before .before .before .before .before .before .before .args .r .now) _ (c .before .before .before .before .before .before .before .before .before .before .before .args .q .now) _ _ (journaled (c .before .before .before .before .before .before .before .before .before .before .before .args .m .now) (c .before .before .before .before .before .before .before .before .before .before .before .args .places .now) (c .before .before .before .before .before .before .before .before .before .before .before .args .words .now)) _ (c .before .before .before .locate-at .ensures .0) (λ k p. copyWords k (ofMode doubleWord (c .before .before .before .before .before .before .before .before .before .before .before .args .d)) (c .before .before .before .before .before .before .before .before .before .before .before .args .wide) (c .before .before .before .before .before .before .before .before .before .before .before .args .d) p) (c .if1 .taken)
+returns c = part-stops (placeAt (c .before .before .before .before .before .before .before .before .before .before .args .s)) (c .before .before .before .before .before .before .before .before .before .before .args .r .now) _ (c .before .before .before .before .before .before .before .before .before .before .args .q .now) _ _ (journaled (c .before .before .before .before .before .before .before .before .before .before .args .m .now) (c .before .before .before .before .before .before .before .before .before .before .args .journal .now)) _ (c .before .before .before .locate-at .ensures .0) (λ k p. copyWords k (ofMode doubleWord (c .before .before .before .before .before .before .before .before .before .before .args .d)) (c .before .before .before .before .before .before .before .before .before .before .args .wide) (c .before .before .before .before .before .before .before .before .before .before .args .d) p) (c .if1 .taken)
 
 same-length-2 : tie.Need-same-length-2
-same-length-2 c = c .before .before .copy-words .kept .0 ∙ c .before .before .before .before .before .before .before .before .before .before .before .before .locate-at .kept .0
+same-length-2 c = c .before .before .copy-words .kept .0 ∙ c .before .before .before .before .before .before .before .before .before .before .before .locate-at .kept .0
 
 returns-2 : tie.Need-returns-2
 unfolding moveWords
-returns-2 c = part-goes (placeAt (c .before .before .before .before .before .before .before .before .before .before .before .before .before .before .before .before .before .before .before .before .args .s)) (c .before .before .before .before .before .before .before .before .before .before .before .before .before .before .before .before .before .before .before .before .args .r .now) _ (c .before .before .before .before .before .before .before .before .before .before .before .before .before .before .before .before .before .before .before .before .args .q .now) _ _ (journaled (c .before .before .before .before .before .before .before .before .before .before .before .before .before .before .before .before .before .before .before .before .args .m .now) (c .before .before .before .before .before .before .before .before .before .before .before .before .before .before .before .before .before .before .before .before .args .places .now) (c .before .before .before .before .before .before .before .before .before .before .before .before .before .before .before .before .before .before .before .before .args .words .now)) _ (c .before .before .before .before .before .before .before .before .before .before .before .before .locate-at .ensures .0) (λ k p. copyWords k (ofMode doubleWord (c .before .before .before .before .before .before .before .before .before .before .before .before .before .before .before .before .before .before .before .before .args .d)) (c .before .before .before .before .before .before .before .before .before .before .before .before .before .before .before .before .before .before .before .before .args .wide) (c .before .before .before .before .before .before .before .before .before .before .before .before .before .before .before .before .before .before .before .before .args .d) p) (c .before .before .before .before .before .before .before .before .before .if1 .left) (c .before .before .before .before .before .before .before .before .before .before .before .before .locate-at .ensures .1 (c .before .before .before .before .before .before .before .before .before .if1 .left)) _ (c .before .before .before .low32 .ensures) _ (words-by _ _ _ _ _ _ _ (c .before .before .before .before .before .before .before .before .before .before .before .before .before .before .before .before .before .before .is-double .ensures) _ (c .before .before .copy-words .ensures))
+returns-2 c = part-goes (placeAt (c .before .before .before .before .before .before .before .before .before .before .before .before .before .before .before .before .before .before .args .s)) (c .before .before .before .before .before .before .before .before .before .before .before .before .before .before .before .before .before .before .args .r .now) _ (c .before .before .before .before .before .before .before .before .before .before .before .before .before .before .before .before .before .before .args .q .now) _ _ (journaled (c .before .before .before .before .before .before .before .before .before .before .before .before .before .before .before .before .before .before .args .m .now) (c .before .before .before .before .before .before .before .before .before .before .before .before .before .before .before .before .before .before .args .journal .now)) _ (c .before .before .before .before .before .before .before .before .before .before .before .locate-at .ensures .0) (λ k p. copyWords k (ofMode doubleWord (c .before .before .before .before .before .before .before .before .before .before .before .before .before .before .before .before .before .before .args .d)) (c .before .before .before .before .before .before .before .before .before .before .before .before .before .before .before .before .before .before .args .wide) (c .before .before .before .before .before .before .before .before .before .before .before .before .before .before .before .before .before .before .args .d) p) (c .before .before .before .before .before .before .before .before .if1 .left) (c .before .before .before .before .before .before .before .before .before .before .before .locate-at .ensures .1 (c .before .before .before .before .before .before .before .before .if1 .left)) _ (c .before .before .before .low32 .ensures) _ (words-by _ _ _ _ _ _ _ (c .before .before .before .before .before .before .before .before .before .before .before .before .before .before .before .before .is-double .ensures) _ (c .before .before .copy-words .ensures))
 
 pub move-words-spec : {M : Type 1} → statement M
 move-words-spec =

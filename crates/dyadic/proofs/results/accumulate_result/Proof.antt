@@ -22,13 +22,13 @@ same-length : tie.Need-same-length
 same-length c = search needs
 
 returns : tie.Need-returns
-returns c = word-fault (λ v. writeAccumulator (cpu (c .before .before .before .before .before .before .before .before .before .before .before .args .r .now) (c .before .before .before .before .before .before .before .before .before .before .before .args .q .now)) v) (λ k. done (withFlags k (unpacked (c .before .before .before .before .before .before .before .before .before .before .before .args .w) .carry) (unpacked (c .before .before .before .before .before .before .before .before .before .before .before .args .w) .overflow))) _ _ (c .before .before .before .before .value-of .ensures) _ _ _ (journaled (c .before .before .before .before .before .before .before .before .before .before .before .args .m .now) (c .before .before .before .before .before .before .before .before .before .before .before .args .places .now) (c .before .before .before .before .before .before .before .before .before .before .before .args .words .now)) _ (c .before .before .before .write-accumulator .ensures) (c .if1 .taken)
+returns c = word-fault (λ v. writeAccumulator (cpu (c .before .before .before .before .before .before .before .before .before .before .args .r .now) (c .before .before .before .before .before .before .before .before .before .before .args .q .now)) v) (λ k. done (withFlags k (unpacked (c .before .before .before .before .before .before .before .before .before .before .args .w) .carry) (unpacked (c .before .before .before .before .before .before .before .before .before .before .args .w) .overflow))) _ _ (c .before .before .before .before .value-of .ensures) _ _ _ (journaled (c .before .before .before .before .before .before .before .before .before .before .args .m .now) (c .before .before .before .before .before .before .before .before .before .before .args .journal .now)) _ (c .before .before .before .write-accumulator .ensures) (c .if1 .taken)
 
 same-length-2 : tie.Need-same-length-2
 same-length-2 c = search needs
 
 returns-2 : tie.Need-returns-2
-returns-2 c = word-done (λ v. writeAccumulator (cpu (c .before .before .before .before .before .before .before .before .before .before .before .before .before .args .r .now) (c .before .before .before .before .before .before .before .before .before .before .before .before .before .args .q .now)) v) (λ k. withFlags k (unpacked (c .before .before .before .before .before .before .before .before .before .before .before .before .before .args .w) .carry) (unpacked (c .before .before .before .before .before .before .before .before .before .before .before .before .before .args .w) .overflow)) _ _ (c .before .before .before .before .before .before .value-of .ensures) _ _ _ (journaled (c .before .before .before .before .before .before .before .before .before .before .before .before .before .args .m .now) (c .before .before .before .before .before .before .before .before .before .before .before .before .before .args .places .now) (c .before .before .before .before .before .before .before .before .before .before .before .before .before .args .words .now)) _ (c .before .before .before .before .before .write-accumulator .ensures) (c .before .before .if1 .left) _ (c .with-flags .ensures _)
+returns-2 c = word-done (λ v. writeAccumulator (cpu (c .before .before .before .before .before .before .before .before .before .before .before .before .args .r .now) (c .before .before .before .before .before .before .before .before .before .before .before .before .args .q .now)) v) (λ k. withFlags k (unpacked (c .before .before .before .before .before .before .before .before .before .before .before .before .args .w) .carry) (unpacked (c .before .before .before .before .before .before .before .before .before .before .before .before .args .w) .overflow)) _ _ (c .before .before .before .before .before .before .value-of .ensures) _ _ _ (journaled (c .before .before .before .before .before .before .before .before .before .before .before .before .args .m .now) (c .before .before .before .before .before .before .before .before .before .before .before .before .args .journal .now)) _ (c .before .before .before .before .before .write-accumulator .ensures) (c .before .before .if1 .left) _ (c .with-flags .ensures _)
 
 pub accumulate-result-spec : {M : Type 1} → statement M
 accumulate-result-spec =

@@ -29,14 +29,14 @@ same-length c = search needs
 
 returns : tie.Need-returns
 unfolding compare
-returns c = rest-stops (c .before .before .before .before .before .before .before .before .before .before .args .r .now) _ (c .before .before .before .before .before .before .before .before .before .before .args .q .now) _ _ (journaled (c .before .before .before .before .before .before .before .before .before .before .args .m .now) (c .before .before .before .before .before .before .before .before .before .before .args .places .now) (c .before .before .before .before .before .before .before .before .before .before .args .words .now)) _ (λ k y. done (withFlag k (related (c .before .before .before .before .before .before .before .before .before .before .args .relation) (c .before .before .before .before .read-both .result .source) y))) (c .before .before .before .before .read-both .ensures .0 (λ x p y. done (withFlag (cpu (c .before .before .before .before .before .before .before .before .before .before .args .r .now) (c .before .before .before .before .before .before .before .before .before .before .args .q .now)) (related (c .before .before .before .before .before .before .before .before .before .before .args .relation) x y)))) (c .if1 .taken)
+returns c = rest-stops (c .before .before .before .before .before .before .before .before .before .args .r .now) _ (c .before .before .before .before .before .before .before .before .before .args .q .now) _ _ (journaled (c .before .before .before .before .before .before .before .before .before .args .m .now) (c .before .before .before .before .before .before .before .before .before .args .journal .now)) _ (λ k y. done (withFlag k (related (c .before .before .before .before .before .before .before .before .before .args .relation) (c .before .before .before .before .read-both .result .source) y))) (c .before .before .before .before .read-both .ensures .0 (λ x p y. done (withFlag (cpu (c .before .before .before .before .before .before .before .before .before .args .r .now) (c .before .before .before .before .before .before .before .before .before .args .q .now)) (related (c .before .before .before .before .before .before .before .before .before .args .relation) x y)))) (c .if1 .taken)
 
 same-length-2 : tie.Need-same-length-2
 same-length-2 c = search needs
 
 returns-2 : tie.Need-returns-2
 unfolding compare
-returns-2 c = compare-done (c .before .before .before .before .before .before .before .before .before .before .before .before .before .before .before .args .r .now) _ (c .before .before .before .before .before .before .before .before .before .before .before .before .before .before .before .args .q .now) _ _ (journaled (c .before .before .before .before .before .before .before .before .before .before .before .before .before .before .before .args .m .now) (c .before .before .before .before .before .before .before .before .before .before .before .before .before .before .before .args .places .now) (c .before .before .before .before .before .before .before .before .before .before .before .before .before .before .before .args .words .now)) _ (c .before .before .before .before .before .before .before .before .before .before .before .before .before .before .before .args .relation) (c .before .before .before .before .before .before .before .before .before .read-both .result .source) (c .before .before .before .before .before .before .before .before .before .read-both .ensures .0 (λ x p y. done (withFlag (cpu (c .before .before .before .before .before .before .before .before .before .before .before .before .before .before .before .args .r .now) (c .before .before .before .before .before .before .before .before .before .before .before .before .before .before .before .args .q .now)) (related (c .before .before .before .before .before .before .before .before .before .before .before .before .before .before .before .args .relation) x y)))) (c .before .before .before .before .before .if1 .left) (c .before .before .before .before .before .before .before .before .before .read-both .ensures .1 (c .before .before .before .before .before .if1 .left)) _ (c .before .before .before .low32 .ensures) _ (c .before .before .related .ensures) _ (c .before .with-flag .ensures) _ (c .good2 .ensures)
+returns-2 c = compare-done (c .before .before .before .before .before .before .before .before .before .before .before .before .before .before .args .r .now) _ (c .before .before .before .before .before .before .before .before .before .before .before .before .before .before .args .q .now) _ _ (journaled (c .before .before .before .before .before .before .before .before .before .before .before .before .before .before .args .m .now) (c .before .before .before .before .before .before .before .before .before .before .before .before .before .before .args .journal .now)) _ (c .before .before .before .before .before .before .before .before .before .before .before .before .before .before .args .relation) (c .before .before .before .before .before .before .before .before .before .read-both .result .source) (c .before .before .before .before .before .before .before .before .before .read-both .ensures .0 (λ x p y. done (withFlag (cpu (c .before .before .before .before .before .before .before .before .before .before .before .before .before .before .args .r .now) (c .before .before .before .before .before .before .before .before .before .before .before .before .before .before .args .q .now)) (related (c .before .before .before .before .before .before .before .before .before .before .before .before .before .before .args .relation) x y)))) (c .before .before .before .before .before .if1 .left) (c .before .before .before .before .before .before .before .before .before .read-both .ensures .1 (c .before .before .before .before .before .if1 .left)) _ (c .before .before .before .low32 .ensures) _ (c .before .before .related .ensures) _ (c .before .with-flag .ensures) _ (c .good2 .ensures)
 
 pub compare-spec : {M : Type 1} → statement M
 compare-spec =

@@ -25,13 +25,13 @@ same-length : tie.Need-same-length
 same-length c = search needs
 
 returns : tie.Need-returns
-returns c = word-fault (λ v. writePlace (cpu (c .before .before .before .before .before .before .before .before .before .before .before .before .args .r .now) (c .before .before .before .before .before .before .before .before .before .before .before .before .args .q .now)) (placeAt (c .before .before .before .before .before .before .before .before .before .before .before .before .args .d) (c .before .before .before .before .before .before .before .before .before .before .before .before .args .a)) v) (λ k. writeAccumulator k (c .before .before .before .before .before .before .before .before .before .before .before .before .args .y)) _ _ (c .before .before .before .before .value-of .ensures ∙ ap (λ (r : Result). r .value) (c .before .before .before .before .before .before .before .before .before .before .operate .ensures)) _ _ _ (journaled (c .before .before .before .before .before .before .before .before .before .before .before .before .args .m .now) (c .before .before .before .before .before .before .before .before .before .before .before .before .args .places .now) (c .before .before .before .before .before .before .before .before .before .before .before .before .args .words .now)) _ (c .before .before .before .write-at .ensures) (c .if1 .taken)
+returns c = word-fault (λ v. writePlace (cpu (c .before .before .before .before .before .before .before .before .before .before .before .args .r .now) (c .before .before .before .before .before .before .before .before .before .before .before .args .q .now)) (placeAt (c .before .before .before .before .before .before .before .before .before .before .before .args .d) (c .before .before .before .before .before .before .before .before .before .before .before .args .a)) v) (λ k. writeAccumulator k (c .before .before .before .before .before .before .before .before .before .before .before .args .y)) _ _ (c .before .before .before .before .value-of .ensures ∙ ap (λ (r : Result). r .value) (c .before .before .before .before .before .before .before .before .before .operate .ensures)) _ _ _ (journaled (c .before .before .before .before .before .before .before .before .before .before .before .args .m .now) (c .before .before .before .before .before .before .before .before .before .before .before .args .journal .now)) _ (c .before .before .before .write-at .ensures) (c .if1 .taken)
 
 same-length-2 : tie.Need-same-length-2
-same-length-2 c = c .before .before .write-accumulator .kept .0 ∙ c .before .before .before .before .before .before .before .before .before .before .before .write-at .kept .0
+same-length-2 c = c .before .before .write-accumulator .kept .0 ∙ c .before .before .before .before .before .before .before .before .before .before .write-at .kept .0
 
 returns-2 : tie.Need-returns-2
-returns-2 c = word-then (λ v. writePlace (cpu (c .before .before .before .before .before .before .before .before .before .before .before .before .before .before .before .before .before .before .before .before .args .r .now) (c .before .before .before .before .before .before .before .before .before .before .before .before .before .before .before .before .before .before .before .before .args .q .now)) (placeAt (c .before .before .before .before .before .before .before .before .before .before .before .before .before .before .before .before .before .before .before .before .args .d) (c .before .before .before .before .before .before .before .before .before .before .before .before .before .before .before .before .before .before .before .before .args .a)) v) (λ k. writeAccumulator k (c .before .before .before .before .before .before .before .before .before .before .before .before .before .before .before .before .before .before .before .before .args .y)) _ _ (c .before .before .before .before .before .before .before .before .before .before .before .before .value-of .ensures ∙ ap (λ (r : Result). r .value) (c .before .before .before .before .before .before .before .before .before .before .before .before .before .before .before .before .before .before .operate .ensures)) _ _ _ (journaled (c .before .before .before .before .before .before .before .before .before .before .before .before .before .before .before .before .before .before .before .before .args .m .now) (c .before .before .before .before .before .before .before .before .before .before .before .before .before .before .before .before .before .before .before .before .args .places .now) (c .before .before .before .before .before .before .before .before .before .before .before .before .before .before .before .before .before .before .before .before .args .words .now)) _ (c .before .before .before .before .before .before .before .before .before .before .before .write-at .ensures) (c .before .before .before .before .before .before .before .before .if1 .left) _ (c .before .before .write-accumulator .ensures)
+returns-2 c = word-then (λ v. writePlace (cpu (c .before .before .before .before .before .before .before .before .before .before .before .before .before .before .before .before .before .before .args .r .now) (c .before .before .before .before .before .before .before .before .before .before .before .before .before .before .before .before .before .before .args .q .now)) (placeAt (c .before .before .before .before .before .before .before .before .before .before .before .before .before .before .before .before .before .before .args .d) (c .before .before .before .before .before .before .before .before .before .before .before .before .before .before .before .before .before .before .args .a)) v) (λ k. writeAccumulator k (c .before .before .before .before .before .before .before .before .before .before .before .before .before .before .before .before .before .before .args .y)) _ _ (c .before .before .before .before .before .before .before .before .before .before .before .value-of .ensures ∙ ap (λ (r : Result). r .value) (c .before .before .before .before .before .before .before .before .before .before .before .before .before .before .before .before .operate .ensures)) _ _ _ (journaled (c .before .before .before .before .before .before .before .before .before .before .before .before .before .before .before .before .before .before .args .m .now) (c .before .before .before .before .before .before .before .before .before .before .before .before .before .before .before .before .before .before .args .journal .now)) _ (c .before .before .before .before .before .before .before .before .before .before .write-at .ensures) (c .before .before .before .before .before .before .before .if1 .left) _ (c .before .before .write-accumulator .ensures)
 
 pub interlock-with-spec : {M : Type 1} → statement M
 interlock-with-spec =

@@ -20,13 +20,13 @@ same-length : tie.Need-same-length
 same-length c = search needs
 
 returns : tie.Need-returns
-returns c = word-fault (λ v. writePlace (cpu (c .before .before .before .before .before .before .before .before .before .before .args .r .now) (c .before .before .before .before .before .before .before .before .before .before .args .q .now)) (placeAt (c .before .before .before .before .before .before .before .before .before .before .args .d) (c .before .before .before .before .before .before .before .before .before .before .args .a)) v) (λ k. done (taggedFlags k (c .before .before .before .before .before .before .before .before .before .before .args .t))) _ _ refl _ _ _ (journaled (c .before .before .before .before .before .before .before .before .before .before .args .m .now) (c .before .before .before .before .before .before .before .before .before .before .args .places .now) (c .before .before .before .before .before .before .before .before .before .before .args .words .now)) _ (c .before .before .before .write-at .ensures) (c .if1 .taken)
+returns c = word-fault (λ v. writePlace (cpu (c .before .before .before .before .before .before .before .before .before .args .r .now) (c .before .before .before .before .before .before .before .before .before .args .q .now)) (placeAt (c .before .before .before .before .before .before .before .before .before .args .d) (c .before .before .before .before .before .before .before .before .before .args .a)) v) (λ k. done (taggedFlags k (c .before .before .before .before .before .before .before .before .before .args .t))) _ _ refl _ _ _ (journaled (c .before .before .before .before .before .before .before .before .before .args .m .now) (c .before .before .before .before .before .before .before .before .before .args .journal .now)) _ (c .before .before .before .write-at .ensures) (c .if1 .taken)
 
 same-length-2 : tie.Need-same-length-2
 same-length-2 c = search needs
 
 returns-2 : tie.Need-returns-2
-returns-2 c = word-done (λ v. writePlace (cpu (c .before .before .before .before .before .before .before .before .before .before .before .before .args .r .now) (c .before .before .before .before .before .before .before .before .before .before .before .before .args .q .now)) (placeAt (c .before .before .before .before .before .before .before .before .before .before .before .before .args .d) (c .before .before .before .before .before .before .before .before .before .before .before .before .args .a)) v) (λ k. taggedFlags k (c .before .before .before .before .before .before .before .before .before .before .before .before .args .t)) _ _ refl _ _ _ (journaled (c .before .before .before .before .before .before .before .before .before .before .before .before .args .m .now) (c .before .before .before .before .before .before .before .before .before .before .before .before .args .places .now) (c .before .before .before .before .before .before .before .before .before .before .before .before .args .words .now)) _ (c .before .before .before .before .before .write-at .ensures) (c .before .before .if1 .left) _ (c .tagged-flags .ensures _)
+returns-2 c = word-done (λ v. writePlace (cpu (c .before .before .before .before .before .before .before .before .before .before .before .args .r .now) (c .before .before .before .before .before .before .before .before .before .before .before .args .q .now)) (placeAt (c .before .before .before .before .before .before .before .before .before .before .before .args .d) (c .before .before .before .before .before .before .before .before .before .before .before .args .a)) v) (λ k. taggedFlags k (c .before .before .before .before .before .before .before .before .before .before .before .args .t)) _ _ refl _ _ _ (journaled (c .before .before .before .before .before .before .before .before .before .before .before .args .m .now) (c .before .before .before .before .before .before .before .before .before .before .before .args .journal .now)) _ (c .before .before .before .before .before .write-at .ensures) (c .before .before .if1 .left) _ (c .tagged-flags .ensures _)
 
 pub put-tagged-spec : {M : Type 1} → statement M
 put-tagged-spec =

@@ -18,10 +18,10 @@ same-length : tie.Need-same-length
 same-length c = search needs
 
 returns : tie.Need-returns
-returns c = tagged-stored (c .before .before .before .before .before .before .before .before .before .before .args .r .now) (c .before .before .before .before .before .before .before .before .before .before .args .q .now) (c .before .before .before .before .before .before .before .before .before .before .args .t) (placeAt (c .before .before .before .before .before .before .before .before .before .before .args .d) (c .before .before .before .before .before .before .before .before .before .before .args .a)) (journaled (c .before .before .before .before .before .before .before .before .before .before .args .m .now) (c .before .before .before .before .before .before .before .before .before .before .args .places .now) (c .before .before .before .before .before .before .before .before .before .before .args .words .now)) (c .before .before .before .before .before .before .before .before .if1 .taken) _ (c .before .before .write-tagged .ensures)
+returns c = tagged-stored (c .before .before .before .before .before .before .before .before .before .args .r .now) (c .before .before .before .before .before .before .before .before .before .args .q .now) (c .before .before .before .before .before .before .before .before .before .args .t) (placeAt (c .before .before .before .before .before .before .before .before .before .args .d) (c .before .before .before .before .before .before .before .before .before .args .a)) (journaled (c .before .before .before .before .before .before .before .before .before .args .m .now) (c .before .before .before .before .before .before .before .before .before .args .journal .now)) (c .before .before .before .before .before .before .before .if1 .taken) _ (c .before .before .write-tagged .ensures)
 
 returns-2 : tie.Need-returns-2
-returns-2 c = tagged-flagged (c .before .before .before .before .before .args .r .now) (c .before .before .before .before .before .args .q .now) (c .before .before .before .before .before .args .t) (placeAt (c .before .before .before .before .before .args .d) (c .before .before .before .before .before .args .a)) (journaled (c .before .before .before .before .before .args .m .now) (c .before .before .before .before .before .args .places .now) (c .before .before .before .before .before .args .words .now)) (c .before .before .before .if1 .left) _ _ (c .before .tagged-flags .ensures) (c .good2 .ensures)
+returns-2 c = tagged-flagged (c .before .before .before .before .before .args .r .now) (c .before .before .before .before .before .args .q .now) (c .before .before .before .before .before .args .t) (placeAt (c .before .before .before .before .before .args .d) (c .before .before .before .before .before .args .a)) (journaled (c .before .before .before .before .before .args .m .now) (c .before .before .before .before .before .args .journal .now)) (c .before .before .before .if1 .left) _ _ (c .before .tagged-flags .ensures) (c .good2 .ensures)
 
 pub store-tagged-spec : {M : Type 1} → statement M
 store-tagged-spec =

@@ -29,13 +29,13 @@ same-length : tie.Need-same-length
 same-length c = search needs
 
 returns : tie.Need-returns
-returns c = (λ f. rest-faults (c .before .before .before .before .before .before .before .before .before .before .args .r .now) _ (c .before .before .before .before .before .before .before .before .before .before .args .q .now) _ _ (journaled (c .before .before .before .before .before .before .before .before .before .before .args .m .now) (c .before .before .before .before .before .before .before .before .before .before .args .places .now) (c .before .before .before .before .before .before .before .before .before .before .args .words .now)) _ (λ k y. loading k (plusOf (plusOf (c .before .before .before .before .before .before .before .before .before .before .args .a) 4) 4) (λ m n. f (c .before .before .before .before .load-pair .result .w0) y m n)) (c .before .before .before .before .load-pair .ensures .0 (λ x y. loading (cpu (c .before .before .before .before .before .before .before .before .before .before .args .r .now) (c .before .before .before .before .before .before .before .before .before .before .args .q .now)) (plusOf (plusOf (c .before .before .before .before .before .before .before .before .before .before .args .a) 4) 4) (λ m n. f x y m n))) (λ y. f 0 0 0 y) (c .if1 .taken), c .before .before .before .before .load-pair .ensures .1)
+returns c = (λ f. rest-faults (c .before .before .before .before .before .before .before .before .before .args .r .now) _ (c .before .before .before .before .before .before .before .before .before .args .q .now) _ _ (journaled (c .before .before .before .before .before .before .before .before .before .args .m .now) (c .before .before .before .before .before .before .before .before .before .args .journal .now)) _ (λ k y. loading k (plusOf (plusOf (c .before .before .before .before .before .before .before .before .before .args .a) 4) 4) (λ m n. f (c .before .before .before .before .load-pair .result .w0) y m n)) (c .before .before .before .before .load-pair .ensures .0 (λ x y. loading (cpu (c .before .before .before .before .before .before .before .before .before .args .r .now) (c .before .before .before .before .before .before .before .before .before .args .q .now)) (plusOf (plusOf (c .before .before .before .before .before .before .before .before .before .args .a) 4) 4) (λ m n. f x y m n))) (λ y. f 0 0 0 y) (c .if1 .taken), c .before .before .before .before .load-pair .ensures .1)
 
 same-length-2 : tie.Need-same-length-2
-same-length-2 c = c .before .before .load-pair2 .kept .0 ∙ c .before .before .before .before .before .before .before .before .before .before .before .before .before .before .load-pair .kept .0
+same-length-2 c = c .before .before .load-pair2 .kept .0 ∙ c .before .before .before .before .before .before .before .before .before .before .before .before .before .load-pair .kept .0
 
 returns-2 : tie.Need-returns-2
-returns-2 c = (λ f. rest-goes (c .before .before .before .before .before .before .before .before .before .before .before .before .before .before .before .before .before .before .before .before .args .r .now) _ (c .before .before .before .before .before .before .before .before .before .before .before .before .before .before .before .before .before .before .before .before .args .q .now) _ _ (journaled (c .before .before .before .before .before .before .before .before .before .before .before .before .before .before .before .before .before .before .before .before .args .m .now) (c .before .before .before .before .before .before .before .before .before .before .before .before .before .before .before .before .before .before .before .before .args .places .now) (c .before .before .before .before .before .before .before .before .before .before .before .before .before .before .before .before .before .before .before .before .args .words .now)) _ (λ k y. loading k (plusOf (plusOf (c .before .before .before .before .before .before .before .before .before .before .before .before .before .before .before .before .before .before .before .before .args .a) 4) 4) (λ m n. f (c .before .before .before .before .before .before .before .before .before .before .before .before .before .before .load-pair .result .w0) y m n)) (c .before .before .before .before .before .before .before .before .before .before .before .before .before .before .load-pair .ensures .0 (λ x y. loading (cpu (c .before .before .before .before .before .before .before .before .before .before .before .before .before .before .before .before .before .before .before .before .args .r .now) (c .before .before .before .before .before .before .before .before .before .before .before .before .before .before .before .before .before .before .before .before .args .q .now)) (plusOf (plusOf (c .before .before .before .before .before .before .before .before .before .before .before .before .before .before .before .before .before .before .before .before .args .a) 4) 4) (λ m n. f x y m n))) (c .before .before .before .before .before .before .before .before .before .before .if1 .left) (c .before .before .before .before .before .before .before .before .before .before .before .before .before .before .load-pair .ensures .1 (c .before .before .before .before .before .before .before .before .before .before .if1 .left)) _ (c .before .before .before .before .before .before .before .before .before .low32 .ensures) _ (pair-at _ _ _ ((c .before .before .before .plus2 .ensures) ∙ ap (λ (y : ℕ). plusOf y 4) (c .before .before .before .before .plus .ensures)) _ _ _ (c .before .before .load-pair2 .ensures .0 (λ m n. f (c .before .before .before .before .before .before .before .before .before .before .before .before .before .before .load-pair .result .w0) (c .before .before .before .before .before .before .before .before .before .low32 .result) m n))), λ h. c .before .before .load-pair2 .ensures .1 h ∙ c .before .before .before .before .before .before .before .before .before .before .before .before .before .before .load-pair .ensures .1 (c .before .before .before .before .before .before .before .before .before .before .if1 .left))
+returns-2 c = (λ f. rest-goes (c .before .before .before .before .before .before .before .before .before .before .before .before .before .before .before .before .before .before .args .r .now) _ (c .before .before .before .before .before .before .before .before .before .before .before .before .before .before .before .before .before .before .args .q .now) _ _ (journaled (c .before .before .before .before .before .before .before .before .before .before .before .before .before .before .before .before .before .before .args .m .now) (c .before .before .before .before .before .before .before .before .before .before .before .before .before .before .before .before .before .before .args .journal .now)) _ (λ k y. loading k (plusOf (plusOf (c .before .before .before .before .before .before .before .before .before .before .before .before .before .before .before .before .before .before .args .a) 4) 4) (λ m n. f (c .before .before .before .before .before .before .before .before .before .before .before .before .before .load-pair .result .w0) y m n)) (c .before .before .before .before .before .before .before .before .before .before .before .before .before .load-pair .ensures .0 (λ x y. loading (cpu (c .before .before .before .before .before .before .before .before .before .before .before .before .before .before .before .before .before .before .args .r .now) (c .before .before .before .before .before .before .before .before .before .before .before .before .before .before .before .before .before .before .args .q .now)) (plusOf (plusOf (c .before .before .before .before .before .before .before .before .before .before .before .before .before .before .before .before .before .before .args .a) 4) 4) (λ m n. f x y m n))) (c .before .before .before .before .before .before .before .before .before .if1 .left) (c .before .before .before .before .before .before .before .before .before .before .before .before .before .load-pair .ensures .1 (c .before .before .before .before .before .before .before .before .before .if1 .left)) _ (c .before .before .before .before .before .before .before .before .low32 .ensures) _ (pair-at _ _ _ ((c .before .before .before .plus2 .ensures) ∙ ap (λ (y : ℕ). plusOf y 4) (c .before .before .before .before .plus .ensures)) _ _ _ (c .before .before .load-pair2 .ensures .0 (λ m n. f (c .before .before .before .before .before .before .before .before .before .before .before .before .before .load-pair .result .w0) (c .before .before .before .before .before .before .before .before .low32 .result) m n))), λ h. c .before .before .load-pair2 .ensures .1 h ∙ c .before .before .before .before .before .before .before .before .before .before .before .before .before .load-pair .ensures .1 (c .before .before .before .before .before .before .before .before .before .if1 .left))
 
 pub load-four-spec : {M : Type 1} → statement M
 load-four-spec =

@@ -21,13 +21,13 @@ same-length : tie.Need-same-length
 same-length c = search needs
 
 returns : tie.Need-returns
-returns c = (λ f. pair-fault (c .before .before .before .before .before .before .before .before .before .args .r .now) _ (c .before .before .before .before .before .before .before .before .before .args .q .now) (c .before .before .before .before .before .before .before .before .before .args .a) _ (journaled (c .before .before .before .before .before .before .before .before .before .args .m .now) (c .before .before .before .before .before .before .before .before .before .args .places .now) (c .before .before .before .before .before .before .before .before .before .args .words .now)) _ (c .before .before .before .load .ensures .0) f (λ y. f 0 y) (c .if1 .taken), c .before .before .before .load .ensures .1)
+returns c = (λ f. pair-fault (c .before .before .before .before .before .before .before .before .args .r .now) _ (c .before .before .before .before .before .before .before .before .args .q .now) (c .before .before .before .before .before .before .before .before .args .a) _ (journaled (c .before .before .before .before .before .before .before .before .args .m .now) (c .before .before .before .before .before .before .before .before .args .journal .now)) _ (c .before .before .before .load .ensures .0) f (λ y. f 0 y) (c .if1 .taken), c .before .before .before .load .ensures .1)
 
 same-length-2 : tie.Need-same-length-2
-same-length-2 c = c .before .before .before .load2 .kept .0 ∙ c .before .before .before .before .before .before .before .before .before .before .before .before .load .kept .0
+same-length-2 c = c .before .before .before .load2 .kept .0 ∙ c .before .before .before .before .before .before .before .before .before .before .before .load .kept .0
 
 returns-2 : tie.Need-returns-2
-returns-2 c = (λ f. pair-loaded (c .before .before .before .before .before .before .before .before .before .before .before .before .before .before .before .before .before .before .args .r .now) _ (c .before .before .before .before .before .before .before .before .before .before .before .before .before .before .before .before .before .before .args .q .now) (c .before .before .before .before .before .before .before .before .before .before .before .before .before .before .before .before .before .before .args .a) _ (journaled (c .before .before .before .before .before .before .before .before .before .before .before .before .before .before .before .before .before .before .args .m .now) (c .before .before .before .before .before .before .before .before .before .before .before .before .before .before .before .before .before .before .args .places .now) (c .before .before .before .before .before .before .before .before .before .before .before .before .before .before .before .before .before .before .args .words .now)) _ (c .before .before .before .before .before .before .before .before .before .before .before .before .load .ensures .0) f (c .before .before .before .before .before .before .before .before .before .if1 .left) (c .before .before .before .before .before .before .before .before .before .before .before .before .load .ensures .1 (c .before .before .before .before .before .before .before .before .before .if1 .left)) _ (c .low32 .ensures) _ (c .before .before .before .before .plus .ensures) _ _ _ (c .before .before .before .load2 .ensures .0), λ h. c .before .before .before .load2 .ensures .1 h ∙ c .before .before .before .before .before .before .before .before .before .before .before .before .load .ensures .1 (c .before .before .before .before .before .before .before .before .before .if1 .left))
+returns-2 c = (λ f. pair-loaded (c .before .before .before .before .before .before .before .before .before .before .before .before .before .before .before .before .args .r .now) _ (c .before .before .before .before .before .before .before .before .before .before .before .before .before .before .before .before .args .q .now) (c .before .before .before .before .before .before .before .before .before .before .before .before .before .before .before .before .args .a) _ (journaled (c .before .before .before .before .before .before .before .before .before .before .before .before .before .before .before .before .args .m .now) (c .before .before .before .before .before .before .before .before .before .before .before .before .before .before .before .before .args .journal .now)) _ (c .before .before .before .before .before .before .before .before .before .before .before .load .ensures .0) f (c .before .before .before .before .before .before .before .before .if1 .left) (c .before .before .before .before .before .before .before .before .before .before .before .load .ensures .1 (c .before .before .before .before .before .before .before .before .if1 .left)) _ (c .low32 .ensures) _ (c .before .before .before .before .plus .ensures) _ _ _ (c .before .before .before .load2 .ensures .0), λ h. c .before .before .before .load2 .ensures .1 h ∙ c .before .before .before .before .before .before .before .before .before .before .before .load .ensures .1 (c .before .before .before .before .before .before .before .before .if1 .left))
 
 pub load-pair-spec : {M : Type 1} → statement M
 load-pair-spec =
