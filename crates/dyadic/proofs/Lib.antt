@@ -2,6 +2,4 @@ pub mod FindLaws
 pub mod ResultLaws
 pub mod MoveLaws
 pub mod TagLaws
-pub mod WordLaws
-pub mod ManyLaws
 pub mod PerformLaws

@@ -19,14 +19,8 @@ use Rattle.exec.specs.declared.Operation.{Operation}
 use Rattle.exec.specs.declared.Relation.{Relation}
 use Rattle.exec.specs.Alu.{Result, divides, related, withFlag}
 use Rattle.exec.specs.Dyadic.{checkDivisor}
-use Rattle.dyadic.specs.Code.{resumed}
-use Rattle.dyadic.proofs.FindLaws.{rest-goes}
-
--- a part that ended well, with the machine as it then is
-pub finished : (s : Bank) (q : Cache) (z : ℕ) (u : Journaled) (c : Cpu) → answerOf z ≡ got 0 → cpu s q ≡ c
-    → gave (ended (answerOf z) s q) u ≡ interpret logging (done c) u
-unfolding interpret
-finished s q z u c ez e = rw ez (ap (λ (d : Cpu). gave (ok d) u) e)
+use Rattle.operands.specs.Code.{resumed}
+use Rattle.operands.proofs.RestLaws.{finished, rest-goes}
 
 compared : (s r : Bank) (q : Cache) (z : ℕ) (u : Journaled) (f g : Bool) → f ≡ g → ((k : Cache) → cpu r k ≡ withFlag (cpu s k) f)
     → answerOf z ≡ got 0 → gave (ended (answerOf z) r q) u ≡ interpret logging (done (withFlag (cpu s q) g)) u

@@ -22,7 +22,7 @@ use Rattle.alu.specs.Results.{taggedWith}
 use Rattle.alu.proofs.Laws.{tagged-with}
 use Rattle.operands.specs.Code.{isConstant, placeAt}
 use Rattle.dyadic.specs.Code.{putTagged}
-use Rattle.dyadic.proofs.ResultLaws.{finished}
+use Rattle.operands.proofs.RestLaws.{finished}
 
 -- to memory or a constant: the flags follow the write
 general-put : (c : Cpu) (t : Tagged) (m : Mode) (v a : ℕ) (j : Journaled) (k : Bool)

@@ -4,21 +4,13 @@ use Prim.Native.Nat.{ℕ}
 use Rattle.word.specs.declared.Tagged.{Tagged}
 use Rattle.isa.specs.declared.Operand.{Operand}
 use Rattle.isa.specs.declared.Wide.{Wide}
-use Rattle.memory.specs.Answers.{Answer, got, bad}
-use Rattle.program.specs.Program.{Program, ret}
-use Rattle.machine.specs.Registers.{Bank}
-use Rattle.machine.specs.Cache.{Cache}
-use Rattle.machine.specs.Status.{Cpu, cpu}
-use Rattle.access.specs.Parts.{Out, stop, done, _>>=_}
+use Rattle.program.specs.Program.{Program}
+use Rattle.machine.specs.Status.{Cpu}
+use Rattle.access.specs.Parts.{Out, done, _>>=_}
 use Rattle.exec.specs.declared.Operation.{Operation}
 use Rattle.exec.specs.Alu.{Result, operate, withFlags}
 use Rattle.exec.specs.Operands.{Place, locate, readPlace, readOperand, writePlace, writeAccumulator}
 use Rattle.exec.specs.Dyadic.{checkDivisor, taggedFlags}
-
--- what follows an answer: the rest with its value, or the exception with the machine as it then is
-abbrev pub resumed : (ℕ → Program (Out Cpu)) → Answer → Bank → Cache → Program (Out Cpu)
-resumed f (got v) b q = f v
-resumed f (bad e) b q = ret (stop e (cpu b q))
 
 -- the source's value and the destination's place, then the rest
 abbrev pub finding : Cpu → Wide → Operand → Operand → (ℕ → Place → Program (Out Cpu)) → Program (Out Cpu)

@@ -16,8 +16,8 @@ ghost use Rattle.program.specs.Program.{Program};
 ghost use Rattle.machine.specs.Status.{Cpu};
 ghost use Rattle.access.specs.Parts.{Out};
 ghost use Rattle.exec.specs.Operands.{Place};
-ghost use Rattle.operands.specs.Code.{placeAt};
-ghost use Rattle.dyadic.specs.Code.{resumed, finding, reading};
+ghost use Rattle.operands.specs.Code.{placeAt, resumed};
+ghost use Rattle.dyadic.specs.Code.{finding, reading};
 
 // The destination's address or an exception, and the source's value.
 pub struct Found {

@@ -2,7 +2,5 @@
 pub mod finding;
 pub mod moving;
 pub mod perform;
-pub mod quads;
 pub mod results;
 pub mod tags;
-pub mod words;

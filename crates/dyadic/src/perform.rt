@@ -1,12 +1,12 @@
 // An instruction of two operands by its task; privilege and missing registers come before any access.
 use crate::moving::move_address;
 use crate::moving::move_operand;
-use crate::quads::move_words;
 use crate::results::accumulate;
 use crate::results::compare;
 use crate::results::compute;
 use crate::results::interlock;
 use crate::tags::compute_tagged;
+use dqm::quads::move_words;
 use exec::Task;
 use isa::Operand;
 use isa::Wide;

@@ -1,4 +1,5 @@
-use Rattle.dyadic.proofs.MoveLaws.{part-stops, part-goes, address-moved}
+use Rattle.operands.proofs.RestLaws.{part-stops, part-goes}
+use Rattle.dyadic.proofs.MoveLaws.{address-moved}
 use Rattle.dyadic.specs.Code.{moveTo}
 use Rattle.exec.specs.Dyadic.{moveAddress, placeAddress}
 use Rattle.operands.specs.Code.{placeAt}

@@ -1,5 +1,5 @@
 use Rattle.exec.specs.Operands.{writePlace}
-use Rattle.dyadic.proofs.MoveLaws.{part-stops, part-goes}
+use Rattle.operands.proofs.RestLaws.{part-stops, part-goes}
 use Rattle.operands.specs.Code.{placeAt}
 use mathlib.Core.Path.{_∙_}
 use Rattle.program.specs.Journal.{journaled}

@@ -1,6 +1,6 @@
 use Rattle.dyadic.specs.Code.{accumulateWith}
 use Rattle.exec.specs.Dyadic.{accumulate}
-use Rattle.dyadic.proofs.FindLaws.{rest-stops, rest-goes}
+use Rattle.operands.proofs.RestLaws.{rest-stops, rest-goes}
 use Rattle.machine.specs.Status.{cpu}
 use mathlib.Core.Path.{_∙_}
 use Rattle.program.specs.Journal.{journaled}

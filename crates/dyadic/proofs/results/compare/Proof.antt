@@ -1,5 +1,5 @@
 use Rattle.dyadic.proofs.ResultLaws.{compare-done}
-use Rattle.dyadic.proofs.FindLaws.{rest-stops}
+use Rattle.operands.proofs.RestLaws.{rest-stops}
 use Rattle.exec.specs.Alu.{withFlag, related}
 use Rattle.access.specs.Parts.{done}
 use Rattle.exec.specs.Dyadic.{compare}

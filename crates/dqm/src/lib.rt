@@ -1,0 +1,3 @@
+// DQM: two or four words moved.
+pub mod quads;
+pub mod words;
