@@ -11,6 +11,7 @@ use Rattle.word.specs.declared.Width.the-variants.{Byte, Half, Word}
 use Rattle.word.specs.Widths.{bytesOf}
 use Rattle.program.specs.Access.{Access}
 use Rattle.program.specs.Program.{Handler, interpret}
+use Rattle.program.proofs.Bytes.{set-all}
 use Rattle.machine.specs.Registers.{word, psw}
 use Rattle.machine.specs.Cache.{Cache, cacheWord, cacheWrite}
 use Rattle.machine.specs.Status.{Cpu}
@@ -26,14 +27,6 @@ use Rattle.bounds.proofs.Steps.{SteppedHolds, Leaves, looked-holds, tra
 pub record Worded (c : Cpu) : Type 0 where
   pub bank : (k : ℕ) → word (c .bank) k < 2 ^ 32
   pub cache : (i j : ℕ) → getD (getD (c .cache) i []) j 0 < 2 ^ 32
-
--- what holds of every element, and of what is set, holds of every element then
-pub set-all : {A : Type 0} (P : A → Type 0) (l : List A) (k : ℕ) (a d : A) → ((j : ℕ) → P (getD l j d)) → P a → (j : ℕ) → P (getD (set l k a) j d)
-set-all P [] k a d h g j = h j
-set-all P (x ∷ l) zero a d h g zero = g
-set-all P (x ∷ l) zero a d h g (suc j) = h (suc j)
-set-all P (x ∷ l) (suc k) a d h g zero = h 0
-set-all P (x ∷ l) (suc k) a d h g (suc j) = set-all P l k a d (λ i. h (suc i)) g j
 
 set-bank : (l : List ℕ) (k v : ℕ) → ((j : ℕ) → getD l j 0 < 2 ^ 32) → v < 2 ^ 32 → (j : ℕ) → getD (set l k v) j 0 < 2 ^ 32
 set-bank l k v h g = set-all (λ (x : ℕ). x < 2 ^ 32) l k v 0 h g

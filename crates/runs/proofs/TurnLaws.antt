@@ -3,7 +3,6 @@
 use Prim.Native.Nat.{ℕ, _+_, _-_, _*_, _/_, _%_, _^_, _<_, _≤_}
 use mathlib.Core.Path.{_≡_, refl, sym, ap, _∙_}
 use mathlib.Core.Bool.{Bool, true, false, not}
-use mathlib.Core.List.{List}
 use native.Mathlib.Omega.{arith}
 use lib.ListN.{set, length, length-set}
 use borrow.Author.Tests.{ne-eqb, le-ltb}
@@ -12,7 +11,8 @@ use Rattle.memory.specs.Bytes.{Memory}
 use Rattle.memory.proofs.AnswerLaws.{answer-got}
 use Rattle.program.specs.Access.{Gave, gave}
 use Rattle.program.specs.Program.{interpret}
-use Rattle.program.specs.Journal.{journal, undo, journaled, logging}
+use Rattle.program.specs.Journal.{Journal, undo, journaled, logging}
+use Rattle.program.proofs.Bytes.{Bytes}
 use Rattle.machine.specs.Registers.{Bank, word, config, psw}
 use Rattle.machine.specs.Cache.{Cache}
 use Rattle.machine.specs.Status.{Cpu, cpu, isUser}
@@ -60,25 +60,25 @@ judged : (s : Board) (c d : Cpu) (u : Memory) (t : Turn) (f : Cpu → Turn) → 
 judged s c d u t f e g h =
     h ∙ ap (λ (x : Cpu). unlessLost (holdsStack x) (board (s .cpu) u) (f x)) e ∙ ap (λ (m : Memory). unlessLost (holdsStack d) (board (s .cpu) m) (f d)) g
 
-pub begun-long : (m : Memory) (x : List ℕ) (w : List (List ℕ)) → Long m x w → (x₀ : List ℕ) → x₀ ≡ set x 0 0 → (length x₀ ≡ 201) × (length w ≡ 200)
-begun-long m x w long x₀ e = (ap (λ (l : List ℕ). length l) e ∙ length-set x 0 0 ∙ long .1, long .2)
+pub begun-long : (m : Memory) (x : Journal) → Long m x → (x₀ : Journal) → x₀ ≡ set x 0 0 → length x₀ ≡ 201
+begun-long m x long x₀ e = ap (λ (l : Journal). length l) e ∙ length-set x 0 0 ∙ long .1
 
 -- ---- kind 03
 
-module _ (level : ℕ) (b : Bank) (q : Cache) (m : Memory) (x : List ℕ) (w : List (List ℕ)) (long : Long m x w) (a : Bank) (p : Cache) (z : Bool) (k : Memory) (y : List ℕ) (v : List (List ℕ))
-    (x₀ : List ℕ) (ex : x₀ ≡ set x 0 0) (e : gave (stepped (cpu a p) z) (journaled k y v) ≡ interpret logging (step level (cpu b q)) (journaled m x₀ w)) where
-  pub turn-long : (length y ≡ 201) × (length v ≡ 200)
-  turn-long = still-long 79 (step level (cpu b q)) (stepped (cpu a p) z) m x w k y v (step-bounded level (cpu b q)) (omega arith) long x₀ ex e
+module _ (level : ℕ) (b : Bank) (q : Cache) (m : Memory) (x : Journal) (long : Long m x) (bytes : Bytes m) (a : Bank) (p : Cache) (z : Bool) (k : Memory) (y : Journal)
+    (x₀ : Journal) (ex : x₀ ≡ set x 0 0) (e : gave (stepped (cpu a p) z) (journaled k y) ≡ interpret logging (step level (cpu b q)) (journaled m x₀)) where
+  pub turn-long : length y ≡ 201
+  turn-long = still-long 79 (step level (cpu b q)) (stepped (cpu a p) z) m x k y (step-bounded level (cpu b q)) (omega arith) long bytes x₀ ex e
 
   pub turn-taken : (d : Bank) → Made a d (λ c. counted (word b config) (not (isUser b)) z c)
-      → (t : Turn) → t ≡ unlessLost (holdsStack (cpu d p)) (board (cpu b q) (undo (journal y v) k)) (goes (board (cpu d p) k))
+      → (t : Turn) → t ≡ unlessLost (holdsStack (cpu d p)) (board (cpu b q) (undo y k)) (goes (board (cpu d p) k))
       → t ≡ turn level (board (cpu b q) m)
   unfolding turn
   turn-taken d ed t h =
-      judged s (cpu d p) after (undo (journal y v) k) t (λ c. goes (board c k)) (ed p)
-      (put-back 79 (step level (cpu b q)) (stepped (cpu a p) z) m x w k y v (step-bounded level (cpu b q)) (omega arith) long x₀ ex e) h
+      judged s (cpu d p) after (undo y k) t (λ c. goes (board c k)) (ed p)
+      (put-back 79 (step level (cpu b q)) (stepped (cpu a p) z) m x k y (step-bounded level (cpu b q)) (omega arith) long bytes x₀ ex e) h
       ∙ ap (λ (l : Bool). unlessLost l s (goes (board after k))) (holds-counted (word b config) (not (isUser b)) z (cpu a p))
-      ∙ ap (λ (g : Gave Memory Stepped). afterStep s g) (plainly (step level (cpu b q)) (stepped (cpu a p) z) (journaled m x₀ w) (journaled k y v) e)
+      ∙ ap (λ (g : Gave Memory Stepped). afterStep s g) (plainly (step level (cpu b q)) (stepped (cpu a p) z) (journaled m x₀) (journaled k y) e)
     where
       s : Board
       s = board (cpu b q) m
@@ -107,41 +107,41 @@ module _ (level : ℕ) (b : Bank) (q : Cache) (m : Memory) (i : Bank) (ei : Made
       small = omega (arith, due-small level i n en)
 
   -- nothing is due: a and p are bank and cache after the attempt, r its answer
-  module _ (en0 : n ≡ 0) (x : List ℕ) (w : List (List ℕ)) (long : Long m x w) (r : ℕ) (a : Bank) (p : Cache) (k : Memory) (y : List ℕ) (v : List (List ℕ)) (x₀ : List ℕ) (ex : x₀ ≡ set x 0 0)
-      (e : gave (triedOut (answerOf r) a p) (journaled k y v) ≡ interpret logging (attemptOf true (cpu i q)) (journaled m x₀ w)) where
+  module _ (en0 : n ≡ 0) (x : Journal) (long : Long m x) (bytes : Bytes m) (r : ℕ) (a : Bank) (p : Cache) (k : Memory) (y : Journal) (x₀ : Journal) (ex : x₀ ≡ set x 0 0)
+      (e : gave (triedOut (answerOf r) a p) (journaled k y) ≡ interpret logging (attemptOf true (cpu i q)) (journaled m x₀)) where
     abbrev s : Board
     s = board (cpu b q) m
 
-    tried-as : gave (triedOut (answerOf r) a p) (journaled k y v) ≡ interpret logging (confinedAttempt (cpu i q)) (journaled m x₀ w)
-    tried-as = e ∙ confined-attempted (cpu i q) (journaled m x₀ w)
+    tried-as : gave (triedOut (answerOf r) a p) (journaled k y) ≡ interpret logging (confinedAttempt (cpu i q)) (journaled m x₀)
+    tried-as = e ∙ confined-attempted (cpu i q) (journaled m x₀)
 
     turn-is : confinedTurn level s ≡ afterTry s (cpu i q) (triedOut (answerOf r) a p) k
     turn-is =
         confined-by
         ∙ ap (λ (j : ℕ). confinedFor (dueFrom j) s (cpu i q)) en0
-        ∙ ap (λ (g : Gave Memory (Out Tried)). tryTurn s (cpu i q) g) (sym (plainly (confinedAttempt (cpu i q)) (triedOut (answerOf r) a p) (journaled m x₀ w) (journaled k y v) tried-as))
+        ∙ ap (λ (g : Gave Memory (Out Tried)). tryTurn s (cpu i q) g) (sym (plainly (confinedAttempt (cpu i q)) (triedOut (answerOf r) a p) (journaled m x₀) (journaled k y) tried-as))
 
-    undone-is : undo (journal y v) k ≡ m
+    undone-is : undo y k ≡ m
     undone-is =
-        put-back 75 (confinedAttempt (cpu i q)) (triedOut (answerOf r) a p) m x w k y v (confined-bounded (cpu i q)) (omega arith) long x₀ ex tried-as
+        put-back 75 (confinedAttempt (cpu i q)) (triedOut (answerOf r) a p) m x k y (confined-bounded (cpu i q)) (omega arith) long bytes x₀ ex tried-as
 
-    pub confined-long : (length y ≡ 201) × (length v ≡ 200)
+    pub confined-long : length y ≡ 201
     confined-long =
-        still-long 75 (confinedAttempt (cpu i q)) (triedOut (answerOf r) a p) m x w k y v (confined-bounded (cpu i q)) (omega arith) long x₀ ex tried-as
+        still-long 75 (confinedAttempt (cpu i q)) (triedOut (answerOf r) a p) m x k y (confined-bounded (cpu i q)) (omega arith) long bytes x₀ ex tried-as
 
     module _ (t : Turn) where
       pub confined-fault : 2 ^ 32 ≤ r → (o g : ℕ) → o ≡ r % 2 ^ 32 → g ≡ 2 * 2 ^ 32 + o
-          → t ≡ unlessLost (holdsStack (cpu a p)) (board (cpu b q) (undo (journal y v) k)) (turned g (board (cpu a p) k)) → t ≡ confinedTurn level s
+          → t ≡ unlessLost (holdsStack (cpu a p)) (board (cpu b q) (undo y k)) (turned g (board (cpu a p) k)) → t ≡ confinedTurn level s
       confined-fault h o g eo eg f =
-          judged s (cpu a p) (cpu a p) (undo (journal y v) k) t (λ c. turned g (board c k)) refl undone-is f
+          judged s (cpu a p) (cpu a p) (undo y k) t (λ c. turned g (board c k)) refl undone-is f
           ∙ ap (λ (j : Turn). unlessLost (holdsStack (cpu a p)) s j) (turned-stop o g (board (cpu a p) k) (omega arith) eg ∙ ap (λ (j : ℕ). ends eventDue j (board (cpu a p) k)) eo)
           ∙ sym (turn-is ∙ ap (λ (j : Out Tried). afterTry s (cpu i q) j k) (answers-stop r a p h))
 
       -- only fetched: d is the bank looked at again
       pub confined-fetched : r < 2 ^ 32 → 4 ≤ r → (d : Bank) → Made b d (λ c. looked level c) → (g : ℕ) → g ≡ 2 * 2 ^ 32 + r
-          → t ≡ unlessLost (holdsStack (cpu d q)) (board (cpu b q) (undo (journal y v) k)) (turned g (board (cpu d q) k)) → t ≡ confinedTurn level s
+          → t ≡ unlessLost (holdsStack (cpu d q)) (board (cpu b q) (undo y k)) (turned g (board (cpu d q) k)) → t ≡ confinedTurn level s
       confined-fetched h l d ed g eg f =
-          judged s (cpu d q) (cpu i q) (undo (journal y v) k) t (λ c. turned g (board c k)) (ed q ∙ sym (ei q)) undone-is f
+          judged s (cpu d q) (cpu i q) (undo y k) t (λ c. turned g (board c k)) (ed q ∙ sym (ei q)) undone-is f
           ∙ ap (λ (j : Turn). unlessLost (holdsStack (cpu i q)) s j) (turned-stop r g (board (cpu i q) k) h eg)
           ∙ sym (turn-is ∙ ap (λ (j : Out Tried). afterTry s (cpu i q) j k) only)
         where
@@ -149,9 +149,9 @@ module _ (level : ℕ) (b : Bank) (q : Cache) (m : Memory) (i : Bank) (ei : Made
           only = simp (answer-got r h, le-ltb r 4 l)
 
       pub confined-sequence : r ≡ 3 → (g : ℕ) → g ≡ 2 * 2 ^ 32 + 0x21
-          → t ≡ unlessLost (holdsStack (cpu a p)) (board (cpu b q) (undo (journal y v) k)) (turned g (board (cpu a p) k)) → t ≡ confinedTurn level s
+          → t ≡ unlessLost (holdsStack (cpu a p)) (board (cpu b q) (undo y k)) (turned g (board (cpu a p) k)) → t ≡ confinedTurn level s
       confined-sequence h g eg f =
-          judged s (cpu a p) (cpu a p) (undo (journal y v) k) t (λ c. turned g (board c k)) refl undone-is f
+          judged s (cpu a p) (cpu a p) (undo y k) t (λ c. turned g (board c k)) refl undone-is f
           ∙ ap (λ (j : Turn). unlessLost (holdsStack (cpu a p)) s j) (turned-stop 0x21 g (board (cpu a p) k) (omega arith) eg)
           ∙ sym (turn-is ∙ ap (λ (j : Out Tried). afterTry s (cpu i q) j k) only)
         where
@@ -161,9 +161,9 @@ module _ (level : ℕ) (b : Bank) (q : Cache) (m : Memory) (i : Bank) (ei : Made
       -- finished: d is the bank with its trace, o with the timers too
       pub confined-done : r < 3 → (j : ℕ) → j ≡ r % 2 ^ 32 → (z : Bool) → z ≡ tracesAt (word i psw) (tracedFrom j) → (d : Bank) → Made a d (λ c. traceFalls z c)
           → (o : Bank) → Made d o (λ c. counted (word b config) (not (isUser b)) true c)
-          → t ≡ unlessLost (holdsStack (cpu o p)) (board (cpu b q) (undo (journal y v) k)) (goes (board (cpu o p) k)) → t ≡ confinedTurn level s
+          → t ≡ unlessLost (holdsStack (cpu o p)) (board (cpu b q) (undo y k)) (goes (board (cpu o p) k)) → t ≡ confinedTurn level s
       confined-done h j ej z ez d ed o eo f =
-          judged s (cpu o p) after (undo (journal y v) k) t (λ c. goes (board c k)) timed-as undone-is f
+          judged s (cpu o p) after (undo y k) t (λ c. goes (board c k)) timed-as undone-is f
           ∙ ap (λ (l : Bool). unlessLost l s (goes (board after k))) (holds-counted (word b config) (not (isUser b)) true (traceFalls traces (cpu a p)) ∙ holds-traced traces (cpu a p))
           ∙ sym (turn-is ∙ ap (λ (l : Out Tried). afterTry s (cpu i q) l k) (answers-class r (tracedFrom r) a p refl h))
         where

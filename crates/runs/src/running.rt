@@ -44,11 +44,10 @@ fn advance(
     requires { ⌜ length (now m) % 4 ≡ 0 ⌝ }
     ensures { λ x. ⌜ stoppedAt x (board (cpu (now (r .exit)) (now (q .exit))) (now (m .exit))) ≡ advanceOf (turnOf confined level) 0 budget (board (cpu (now (r .entry)) (now (q .entry))) (now (m .entry))) ⌝ }
 {
-    let mut places = [0u32; 201];
-    let mut words = [[0u8; 4]; 200];
+    let mut journal = [0u64; 201];
     let mut n = 0;
     while n < budget {
-        let x = take_turn(m, &mut places, &mut words, q, r, confined, level);
+        let x = take_turn(m, &mut journal, q, r, confined, level);
         if x != 0 {
             return Stopped {
                 steps: n,

@@ -17,7 +17,7 @@ ghost use mathlib.Core.Path.{_≡_};
 ghost use mathlib.Core.Bool.{not};
 ghost use Prim.Native.Nat.{_%_};
 ghost use lib.ListN.{length};
-ghost use Rattle.program.specs.Journal.{journal, undo as undoOf};
+ghost use Rattle.program.specs.Journal.{undo as undoOf};
 ghost use Rattle.machine.specs.Registers.{word, config};
 ghost use Rattle.machine.specs.Cache.{Cache};
 ghost use Rattle.machine.specs.Status.{cpu, isUser};
@@ -29,20 +29,19 @@ ghost use Rattle.runs.specs.Code.{turned};
 // A turn that would end with x; one that loses its stack is refused with number 4 and leaves what was before it.
 fn judge(
     m: &mut [u8],
-    places: &[u32; 201],
-    words: &[[u8; 4]; 200],
+    journal: &[u64; 201],
     q: &mut [[u32; 4]; 16],
     r: &mut [u32; 17],
     bank: &[u32; 17],
     cache: &[[u32; 4]; 16],
     x: u64,
 ) -> u64
-    ensures { λ y. ⌜ turned y (board (cpu (now (r .exit)) (now (q .exit))) (now (m .exit))) ≡ unlessLost (holdsStack (cpu (now (r .entry)) (now (q .entry)))) (board (cpu (now (bank .entry)) (now (cache .entry))) (undoOf (journal (now (places .entry)) (now (words .entry))) (now (m .entry)))) (turned x (board (cpu (now (r .entry)) (now (q .entry))) (now (m .entry)))) ⌝ }
+    ensures { λ y. ⌜ turned y (board (cpu (now (r .exit)) (now (q .exit))) (now (m .exit))) ≡ unlessLost (holdsStack (cpu (now (r .entry)) (now (q .entry)))) (board (cpu (now (bank .entry)) (now (cache .entry))) (undoOf (now (journal .entry)) (now (m .entry)))) (turned x (board (cpu (now (r .entry)) (now (q .entry))) (now (m .entry)))) ⌝ }
 {
     if stack_held(r[8], r[4]) {
         return x;
     }
-    undo(m, places, words);
+    undo(m, journal);
     *r = *bank;
     *q = *cache;
     0x1_0000_0004
@@ -59,50 +58,47 @@ fn count_turn(r: &mut [u32; 17], bank: &[u32; 17], completed: bool)
 // Kind 03: events are taken.
 fn turn(
     m: &mut [u8],
-    places: &mut [u32; 201],
-    words: &mut [[u8; 4]; 200],
+    journal: &mut [u64; 201],
     q: &mut [[u32; 4]; 16],
     r: &mut [u32; 17],
     level: u32,
 ) -> u64
-    requires { ⌜ (length (now m) % 4 ≡ 0) × (length (now places) ≡ 201) × (length (now words) ≡ 200) ⌝ }
-    ensures { λ y. ⌜ (turned y (board (cpu (now (r .exit)) (now (q .exit))) (now (m .exit))) ≡ turnFor level (board (cpu (now (r .entry)) (now (q .entry))) (now (m .entry)))) × (length (now (places .exit)) ≡ 201) × (length (now (words .exit)) ≡ 200) ⌝ }
+    requires { ⌜ (length (now m) % 4 ≡ 0) × (length (now journal) ≡ 201) ⌝ }
+    ensures { λ y. ⌜ (turned y (board (cpu (now (r .exit)) (now (q .exit))) (now (m .exit))) ≡ turnFor level (board (cpu (now (r .entry)) (now (q .entry))) (now (m .entry)))) × (length (now (journal .exit)) ≡ 201) ⌝ }
 {
     let bank = *r;
     let cache = *q;
-    begin(places);
-    let completed = step(m, places, words, q, r, level);
+    begin(journal);
+    let completed = step(m, journal, q, r, level);
     count_turn(r, &bank, completed);
-    judge(m, places, words, q, r, &bank, &cache, 0)
+    judge(m, journal, q, r, &bank, &cache, 0)
 }
 
 // Kind 04: before the first event sequence. An instruction that has only been fetched leaves what the look left.
 fn confined_turn(
     m: &mut [u8],
-    places: &mut [u32; 201],
-    words: &mut [[u8; 4]; 200],
+    journal: &mut [u64; 201],
     q: &mut [[u32; 4]; 16],
     r: &mut [u32; 17],
     level: u32,
 ) -> u64
-    requires { ⌜ (length (now m) % 4 ≡ 0) × (length (now places) ≡ 201) × (length (now words) ≡ 200) ⌝ }
-    ensures { λ y. ⌜ (turned y (board (cpu (now (r .exit)) (now (q .exit))) (now (m .exit))) ≡ confinedTurn level (board (cpu (now (r .entry)) (now (q .entry))) (now (m .entry)))) × (length (now (places .exit)) ≡ 201) × (length (now (words .exit)) ≡ 200) ⌝ }
+    requires { ⌜ (length (now m) % 4 ≡ 0) × (length (now journal) ≡ 201) ⌝ }
+    ensures { λ y. ⌜ (turned y (board (cpu (now (r .exit)) (now (q .exit))) (now (m .exit))) ≡ confinedTurn level (board (cpu (now (r .entry)) (now (q .entry))) (now (m .entry)))) × (length (now (journal .exit)) ≡ 201) ⌝ }
 {
     let bank = *r;
     let cache = *q;
-    begin(places);
+    begin(journal);
     looked(r, level);
     let due = due_code(r, level);
     if due != 0 {
         return 0x2_0000_0000 + due as u64;
     }
     let p = r[6];
-    let x = attempt(m, places, words, q, r, true);
+    let x = attempt(m, journal, q, r, true);
     if 0x1_0000_0000 <= x {
         return judge(
             m,
-            places,
-            words,
+            journal,
             q,
             r,
             &bank,
@@ -114,35 +110,34 @@ fn confined_turn(
         *r = bank;
         *q = cache;
         looked(r, level);
-        return judge(m, places, words, q, r, &bank, &cache, 0x2_0000_0000 + x);
+        return judge(m, journal, q, r, &bank, &cache, 0x2_0000_0000 + x);
     }
     if x == 3 {
-        return judge(m, places, words, q, r, &bank, &cache, 0x2_0000_0021);
+        return judge(m, journal, q, r, &bank, &cache, 0x2_0000_0021);
     }
     trace_falls(r, traces_at(p, low32(x)));
     count_turn(r, &bank, true);
-    judge(m, places, words, q, r, &bank, &cache, 0)
+    judge(m, journal, q, r, &bank, &cache, 0)
 }
 
 // A turn of either kind: the quick way where that goes, else with all that may have to be put back.
 pub(crate) fn take_turn(
     m: &mut [u8],
-    places: &mut [u32; 201],
-    words: &mut [[u8; 4]; 200],
+    journal: &mut [u64; 201],
     q: &mut [[u32; 4]; 16],
     r: &mut [u32; 17],
     confined: bool,
     level: u32,
 ) -> u64
-    requires { ⌜ (length (now m) % 4 ≡ 0) × (length (now places) ≡ 201) × (length (now words) ≡ 200) ⌝ }
-    ensures { λ y. ⌜ (turned y (board (cpu (now (r .exit)) (now (q .exit))) (now (m .exit))) ≡ turnOf confined level (board (cpu (now (r .entry)) (now (q .entry))) (now (m .entry)))) × (length (now (places .exit)) ≡ 201) × (length (now (words .exit)) ≡ 200) ⌝ }
+    requires { ⌜ (length (now m) % 4 ≡ 0) × (length (now journal) ≡ 201) ⌝ }
+    ensures { λ y. ⌜ (turned y (board (cpu (now (r .exit)) (now (q .exit))) (now (m .exit))) ≡ turnOf confined level (board (cpu (now (r .entry)) (now (q .entry))) (now (m .entry)))) × (length (now (journal .exit)) ≡ 201) ⌝ }
 {
     if quick_turn(m, q, r, level) {
         return 0;
     }
     if confined {
-        confined_turn(m, places, words, q, r, level)
+        confined_turn(m, journal, q, r, level)
     } else {
-        turn(m, places, words, q, r, level)
+        turn(m, journal, q, r, level)
     }
 }

@@ -20,17 +20,16 @@ ghost use Rattle.step.specs.Step.{stepped, finish as finishOf, instructionStep,
 // After an attempt that began with the PSW p: a trace falls due, or the exception is taken.
 fn finish(
     m: &mut [u8],
-    places: &mut [u32; 201],
-    words: &mut [[u8; 4]; 200],
+    journal: &mut [u64; 201],
     q: &[[u32; 4]; 16],
     r: &mut [u32; 17],
     p: u32,
     x: u64,
 ) -> bool
-    ensures { λ z. ⌜ gave (stepped (cpu (now (r .exit)) (now (q .entry))) z) (journaled (now (m .exit)) (now (places .exit)) (now (words .exit))) ≡ interpret logging (finishOf p (actedOut (answerOf x) (now (r .entry)) (now (q .entry)))) (journaled (now (m .entry)) (now (places .entry)) (now (words .entry))) ⌝ }
+    ensures { λ z. ⌜ gave (stepped (cpu (now (r .exit)) (now (q .entry))) z) (journaled (now (m .exit)) (now (journal .exit))) ≡ interpret logging (finishOf p (actedOut (answerOf x) (now (r .entry)) (now (q .entry)))) (journaled (now (m .entry)) (now (journal .entry))) ⌝ }
 {
     if 0x1_0000_0000 <= x {
-        exception_step(m, places, words, q, r, low32(x));
+        exception_step(m, journal, q, r, low32(x));
         return false;
     }
     if x < 3 {
@@ -44,35 +43,33 @@ fn finish(
 // The instruction at PC.
 fn instruction_step(
     m: &mut [u8],
-    places: &mut [u32; 201],
-    words: &mut [[u8; 4]; 200],
+    journal: &mut [u64; 201],
     q: &mut [[u32; 4]; 16],
     r: &mut [u32; 17],
 ) -> bool
-    ensures { λ z. ⌜ gave (stepped (cpu (now (r .exit)) (now (q .exit))) z) (journaled (now (m .exit)) (now (places .exit)) (now (words .exit))) ≡ interpret logging (instructionStep (cpu (now (r .entry)) (now (q .entry)))) (journaled (now (m .entry)) (now (places .entry)) (now (words .entry))) ⌝ }
+    ensures { λ z. ⌜ gave (stepped (cpu (now (r .exit)) (now (q .exit))) z) (journaled (now (m .exit)) (now (journal .exit))) ≡ interpret logging (instructionStep (cpu (now (r .entry)) (now (q .entry)))) (journaled (now (m .entry)) (now (journal .entry))) ⌝ }
 {
     let p = r[6];
-    let x = attempt(m, places, words, q, r, false);
-    finish(m, places, words, q, r, p, x)
+    let x = attempt(m, journal, q, r, false);
+    finish(m, journal, q, r, p, x)
 }
 
 // One step with the interrupt input at a level.
 pub fn step(
     m: &mut [u8],
-    places: &mut [u32; 201],
-    words: &mut [[u8; 4]; 200],
+    journal: &mut [u64; 201],
     q: &mut [[u32; 4]; 16],
     r: &mut [u32; 17],
     level: u32,
 ) -> bool
-    ensures { λ z. ⌜ gave (stepped (cpu (now (r .exit)) (now (q .exit))) z) (journaled (now (m .exit)) (now (places .exit)) (now (words .exit))) ≡ interpret logging (stepOf level (cpu (now (r .entry)) (now (q .entry)))) (journaled (now (m .entry)) (now (places .entry)) (now (words .entry))) ⌝ }
+    ensures { λ z. ⌜ gave (stepped (cpu (now (r .exit)) (now (q .exit))) z) (journaled (now (m .exit)) (now (journal .exit))) ≡ interpret logging (stepOf level (cpu (now (r .entry)) (now (q .entry)))) (journaled (now (m .entry)) (now (journal .entry))) ⌝ }
 {
     looked(r, level);
     let due = due_code(r, level);
     if due == 0 {
-        instruction_step(m, places, words, q, r)
+        instruction_step(m, journal, q, r)
     } else {
-        event_step(m, places, words, q, r, due);
+        event_step(m, journal, q, r, due);
         false
     }
 }
