@@ -1,4 +1,3 @@
-pub mod RowLaws
 pub mod RoundTrip
 pub mod WordLaws
 pub mod Exits

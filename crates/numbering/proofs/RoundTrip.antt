@@ -1,99 +1,139 @@
--- The block of an instruction names it, and a block that names an instruction is that instruction's block.
+-- The block of an instruction names it, and a block that names an instruction is that instruction's block. That the tables
+-- have a row where the lists have it, and the other way round, is from the round trip of decoder and encoder.
 -- Assumes nothing.
-use Prim.Native.Nat.{ℕ, zero, suc, zero-le, _<_, _≤_}
-use mathlib.Core.Path.{_≡_, refl, sym, _∙_}
-use mathlib.Core.Bool.{Bool, true, false, _&&_, _||_}
+use Prim.Native.Nat.{ℕ, zero, suc, zero-le, _+_, _/_, _%_, _<_, _≤_}
+use mathlib.Core.Path.{_≡_, refl, sym, ap, subst, _∙_}
+use mathlib.Core.Bool.{Bool, true, false, _&&_}
 use mathlib.Core.List.{List, [], _∷_}
 use native.Mathlib.Omega.{arith}
-use borrow.Author.Tests.{ltb-true, leb-true, eqb-true}
-use lib.ListN.{length, getD}
+use borrow.Author.Tests.{ltb-true, ltb-false, lt-ltb, le-ltb, leb-true, le-leb, eqb-true, eq-eqb, ne-eqb}
+use lib.ListN.{length, getD, List·getD-eq-default}
 use lib.Seq.{ext-getD}
 use lib.Dec.{ltb, leb, eqb}
 use Rattle.laws.proofs.Match.{within}
 use Rattle.laws.proofs.Cases.{by-test, and-left, and-right}
-use Rattle.isa.specs.declared.Mode.{Mode}
-use Rattle.isa.specs.declared.Mode.the-variants.{AbsoluteByte, AbsoluteUbyte, AbsoluteHalf, AbsoluteUhalf, StackByte, StackUbyte, StackHalf, StackUhalf, IndirectByte, IndirectUbyte, IndirectHalf, IndirectUhalf, AbsoluteWord, StackWord, IndirectWord, Immediate}
+use Rattle.isa.specs.declared.ShortRow.{ShortRow}
+use Rattle.isa.specs.declared.FieldMode.{FieldMode}
+use Rattle.isa.specs.declared.FieldMode.the-variants.{Absent, Imm5, Uimm5, Wai5, Stk5, Istk5, Imm10, Pcrel10, Stk8, Fill8}
+use Rattle.isa.specs.declared.ShortEntry.{ShortEntry}
+use Rattle.isa.specs.declared.ShortEntry.the-variants as short
+use Rattle.isa.specs.declared.ShortListed.{ShortListed}
+use Rattle.isa.specs.declared.ShortInstruction.{ShortInstruction}
+use Rattle.isa.specs.declared.DyadicRow.{DyadicRow}
+use Rattle.isa.specs.declared.DyadicEntry.{DyadicEntry}
+use Rattle.isa.specs.declared.DyadicEntry.the-variants as dyadic
+use Rattle.isa.specs.declared.ModeEntry.{ModeEntry}
+use Rattle.isa.specs.declared.ModeEntry.the-variants as mode
+use Rattle.isa.specs.declared.MonadicEntry.{MonadicEntry}
+use Rattle.isa.specs.declared.MonadicEntry.the-variants as monadic
 use Rattle.isa.specs.declared.MonadicMode.{MonadicMode}
 use Rattle.isa.specs.declared.MonadicMode.the-variants.{WordAbsolute, WordStack, WordIndirect, WordImmediate, FlowAbsoluteIndirect, FlowStackIndirect, FlowRelative, FlowAbsolute}
+use Rattle.isa.specs.declared.MonadicModeEntry.{MonadicModeEntry}
+use Rattle.isa.specs.declared.MonadicModeEntry.the-variants as place
 use Rattle.isa.specs.declared.Operand.{Operand}
 use Rattle.isa.specs.declared.Operand.the-variants.{General, Register}
 use Rattle.isa.specs.declared.Wide.{Wide}
 use Rattle.isa.specs.declared.Wide.the-variants.{Three, Five}
 use Rattle.isa.specs.declared.Instruction.{Instruction}
 use Rattle.isa.specs.declared.Instruction.the-variants as instruction
-use Rattle.isa.specs.Encode.{modeCode, operandRaw, wideLength, prefixLength}
-use Rattle.numbering.specs.declared.Named.the-variants.{Is as named, Nothing as nothing}
-use Rattle.numbering.specs.Rows.{shortRowAt, dyadicRowAt, monadicRowAt}
-use Rattle.numbering.specs.Numbering.{operandMode, monadicModePlace, blockOf, modeAt, operandIn, monadicModeAt, isShort, shortIn, wideIn, isDyadic, dyadicIn, isMonadic, monadicIn, formIn, instructionIn}
-use Rattle.numbering.proofs.RowLaws.{short-row, short-place, dyadic-row, dyadic-place, monadic-row, monadic-place}
+use Rattle.isa.specs.declared.Answer.the-variants as answer
+use Rattle.isa.specs.Tables.{shortOf, dyadicTable, dyadicOf, monadicTable, monadicOf, generalTable, generalOf}
+use Rattle.isa.specs.Decode.{shortEntry, shortAnswer, shortInstruction, decodeShort}
+use Rattle.isa.specs.Encodings.{shortListed, dyadicListed, monadicListed}
+use Rattle.isa.specs.Encode.{rawField, sourcePlace, shortParcel, modeCode, operandRaw, wideLength, prefixLength}
+use Rattle.roundtrip_short.proofs.Rows as short-rows
+use Rattle.roundtrip.proofs.DyadicTables as dyadics
+use Rattle.roundtrip.proofs.Monadic as monadics
+use Rattle.numbering.specs.Numbering.{Named, named, nothing, operandMode, monadicModePlace, blockOf, shortNamed, isShort, shortIn, modeAt, operandIn, isDyadic, dyadicNamed, dyadicIn, monadicModeIn, monadicNamed, isMonadic, monadicIn, formIn, instructionIn}
 
 -- ---- the parts of an instruction
 
-mode-back : (m : Mode) → (leb (modeCode m) 16 ≡ true) × (eqb (modeCode m) 16 ≡ false) × (modeAt (modeCode m) ≡ m)
-mode-back AbsoluteByte = (refl, refl, refl)
-mode-back AbsoluteUbyte = (refl, refl, refl)
-mode-back AbsoluteHalf = (refl, refl, refl)
-mode-back AbsoluteUhalf = (refl, refl, refl)
-mode-back StackByte = (refl, refl, refl)
-mode-back StackUbyte = (refl, refl, refl)
-mode-back StackHalf = (refl, refl, refl)
-mode-back StackUhalf = (refl, refl, refl)
-mode-back IndirectByte = (refl, refl, refl)
-mode-back IndirectUbyte = (refl, refl, refl)
-mode-back IndirectHalf = (refl, refl, refl)
-mode-back IndirectUhalf = (refl, refl, refl)
-mode-back AbsoluteWord = (refl, refl, refl)
-mode-back StackWord = (refl, refl, refl)
-mode-back IndirectWord = (refl, refl, refl)
-mode-back Immediate = (refl, refl, refl)
+-- one parcel: a row's parcel without operand bits is the one that its values 0 have
+no-bits : (m : FieldMode) → (sourcePlace m (rawField m 0) ≡ 0) × (rawField m 0 ≡ 0)
+no-bits Absent = (refl, refl)
+no-bits Imm5 = (refl, refl)
+no-bits Uimm5 = (refl, refl)
+no-bits Wai5 = (refl, refl)
+no-bits Stk5 = (refl, refl)
+no-bits Istk5 = (refl, refl)
+no-bits Imm10 = (refl, refl)
+no-bits Pcrel10 = (refl, refl)
+no-bits Stk8 = (refl, refl)
+no-bits Fill8 = (refl, refl)
 
+bare : (l : ShortListed) → shortParcel l 0 0 ≡ l .base
+bare l = omega (arith, no-bits (l .source) .0, no-bits (l .destination) .1)
+
+-- what decodes to an instruction is named by its row
+decoded-named : (e : ShortEntry) (p : ℕ) (i : ShortInstruction) (x y : ℕ) → shortListed (i .row) .base ≡ p → shortAnswer e p ≡ answer.Is (instruction.Short i)
+    → shortNamed e p x y ≡ named (instruction.Short (record { row = i .row; source = x; destination = y }))
+decoded-named (short.Row q s d) p i x y h e =
+    let j : shortInstruction q s d p ≡ i = cc in
+    let f : q ≡ i .row = ap (λ (k : ShortInstruction). k .row) j in
+    rw (f, eq-eqb (shortListed (i .row) .base) p h) refl
+decoded-named short.Stack p i x y h e = let z : _≡_ {A = ℕ} 0 1 = cc in absurd (omega arith)
+decoded-named short.Niladic p i x y h e = let z : _≡_ {A = ℕ} 0 1 = cc in absurd (omega arith)
+decoded-named short.Prefix p i x y h e = let z : _≡_ {A = ℕ} 0 1 = cc in absurd (omega arith)
+decoded-named short.Unimplemented p i x y h e = let z : _≡_ {A = ℕ} 0 1 = cc in absurd (omega arith)
+decoded-named short.Trap p i x y h e = let z : _≡_ {A = ℕ} 0 1 = cc in absurd (omega arith)
+decoded-named short.Unlisted p i x y h e = let z : _≡_ {A = ℕ} 0 1 = cc in absurd (omega arith)
+
+-- what a row's parcel without operand bits decodes to
+abbrev bareInstruction : ShortRow → ShortListed → ShortInstruction
+bareInstruction q l = short-rows.fielded q (l .source) (l .destination) (rawField (l .source) 0) (rawField (l .destination) 0)
+
+module _ (q : ShortRow) where
+  decoded : short-rows.From (shortListed q .base) (bareInstruction q (shortListed q))
+  decoded = subst (λ (p : ℕ). short-rows.From p (bareInstruction q (shortListed q))) (bare (shortListed q)) (short-rows.row q 0 0)
+
+  short-back : (x y : ℕ) → shortNamed (shortEntry (shortOf (shortListed q .base / 1024 % 32)) (shortListed q .base)) (shortListed q .base) x y
+      ≡ named (instruction.Short (record { row = q; source = x; destination = y }))
+  unfolding decodeShort
+  short-back x y =
+      decoded-named (shortEntry (shortOf (shortListed q .base / 1024 % 32)) (shortListed q .base)) (shortListed q .base) (bareInstruction q (shortListed q)) x y refl
+      (decoded .decoded)
+
+-- two operands
 operand-back : (o : Operand) → (leb (operandMode o) 16 ≡ true) × (operandIn (operandMode o) (operandRaw o) ≡ o)
-operand-back (General m v) = (mode-back m .0, simp (mode-back m .1, mode-back m .2))
+operand-back (General m v) =
+    let h : modeCode m < 16 = dyadics.code-lt (General m v) in
+    (le-leb (modeCode m) 16 (omega arith), simp (ne-eqb (modeCode m) 16 (λ e. omega arith), dyadics.mode-back false m v refl))
 operand-back (Register n) = (refl, refl)
 
-single-back : (m : MonadicMode) → (ltb (monadicModePlace m) 8 ≡ true) × (monadicModeAt (monadicModePlace m) ≡ m)
-single-back WordAbsolute = (refl, refl)
-single-back WordStack = (refl, refl)
-single-back WordIndirect = (refl, refl)
-single-back WordImmediate = (refl, refl)
-single-back FlowAbsoluteIndirect = (refl, refl)
-single-back FlowStackIndirect = (refl, refl)
-single-back FlowRelative = (refl, refl)
-single-back FlowAbsolute = (refl, refl)
-
-wide-back : (w : Wide) → ((eqb (wideLength w) 3 || eqb (wideLength w) 5) ≡ true) × (wideIn (wideLength w) ≡ w)
-wide-back Three = (refl, refl)
-wide-back Five = (refl, refl)
+single-back : (m : MonadicMode) → monadicModeIn (monadicModePlace m) ≡ place.Is m
+single-back WordAbsolute = refl
+single-back WordStack = refl
+single-back WordIndirect = refl
+single-back WordImmediate = refl
+single-back FlowAbsoluteIndirect = refl
+single-back FlowStackIndirect = refl
+single-back FlowRelative = refl
+single-back FlowAbsolute = refl
 
 prefix-back : (p : Bool) → (ltb (prefixLength p) 2 ≡ true) × (eqb (prefixLength p) 1 ≡ p)
 prefix-back true = (refl, refl)
 prefix-back false = (refl, refl)
 
+dyadic-back : (q : DyadicRow) (w : Wide) (p : Bool) (a b : Operand)
+    → dyadicIn w (dyadicListed q .opcode) (prefixLength p) (operandMode a) (operandRaw a) (operandMode b) (operandRaw b)
+    ≡ named (instruction.Dyadic (record { row = q; wide = w; prefix = p; source = a; destination = b }))
+unfolding dyadicIn
+dyadic-back q w p a b =
+    simp (prefix-back p .0, prefix-back p .1, operand-back a .0, operand-back a .1, operand-back b .0, operand-back b .1, dyadics.row-back q)
+
+dyadic-block : (q : DyadicRow) (w : Wide) (p : Bool) (a b : Operand)
+    → instructionIn (blockOf (instruction.Dyadic (record { row = q; wide = w; prefix = p; source = a; destination = b })))
+    ≡ named (instruction.Dyadic (record { row = q; wide = w; prefix = p; source = a; destination = b }))
+unfolding instructionIn formIn
+dyadic-block q Three p a b = dyadic-back q Three p a b
+dyadic-block q Five p a b = dyadic-back q Five p a b
+
 pub named-block : (i : Instruction) → instructionIn (blockOf i) ≡ named i
-unfolding instructionIn formIn shortIn dyadicIn monadicIn
-named-block (instruction.Short i) = simp (short-row (i .row) .0, short-row (i .row) .1)
-named-block (instruction.Dyadic i) =
-    simp (
-      dyadic-row (i .row) .0,
-      dyadic-row (i .row) .1,
-      wide-back (i .wide) .0,
-      wide-back (i .wide) .1,
-      prefix-back (i .prefix) .0,
-      prefix-back (i .prefix) .1,
-      operand-back (i .source) .0,
-      operand-back (i .source) .1,
-      operand-back (i .destination) .0,
-      operand-back (i .destination) .1,
-    )
+unfolding instructionIn formIn shortIn monadicIn
+named-block (instruction.Short i) = simp (lt-ltb _ 0x8000 (decoded (i .row) .below), short-back (i .row) (i .source) (i .destination))
+named-block (instruction.Dyadic i) = dyadic-block (i .row) (i .wide) (i .prefix) (i .source) (i .destination)
 named-block (instruction.Monadic i) =
-    simp (
-      monadic-row (i .row) .0,
-      monadic-row (i .row) .1,
-      prefix-back (i .prefix) .0,
-      prefix-back (i .prefix) .1,
-      single-back (i .mode) .0,
-      single-back (i .mode) .1,
-    )
+    simp (prefix-back (i .prefix) .0, prefix-back (i .prefix) .1, single-back (i .mode), monadics.row-back (i .row))
 
 -- ---- the words of a block
 
@@ -108,107 +148,142 @@ prefix-word zero h = refl
 prefix-word (suc zero) h = refl
 prefix-word (suc (suc p)) h = absurd (omega arith)
 
-wide-word : (w : ℕ) → (eqb w 3 || eqb w 5) ≡ true → wideLength (wideIn w) ≡ w
-wide-word w h =
-    by-test (eqb w 3)
-    (λ t. simp t (sym (eqb-true w 3 t)))
-    (λ t. let u : eqb w 5 ≡ true = simp t at h in simp t (sym (eqb-true w 5 u)))
+-- past a table's end there is nothing
+dyadic-there : (k : ℕ) → dyadics.RowThere (dyadicOf k) k
+dyadic-there k =
+    by-test (ltb k 64)
+    (λ t. dyadics.row-there k (ltb-true k 64 t))
+    (λ t. subst (λ (e : DyadicEntry). dyadics.RowThere e k) (sym (List·getD-eq-default dyadicTable dyadic.Unlisted (ltb-false k 64 t))) tt)
 
-mode-word : (k v : ℕ) → k < 17 → operandMode (operandIn k v) ≡ k
+monadic-there : (k : ℕ) → monadics.RowThere (monadicOf k) k
+monadic-there k =
+    by-test (ltb k 16)
+    (λ t. monadics.row-there k (ltb-true k 16 t))
+    (λ t. subst (λ (e : MonadicEntry). monadics.RowThere e k) (sym (List·getD-eq-default monadicTable monadic.Unlisted (ltb-false k 16 t))) tt)
+
+-- the words of an operand
+mode-word : (k v : ℕ) → k ≤ 16 → operandMode (operandIn k v) ≡ k
 mode-word k v h =
     within (λ n. operandMode (operandIn n v) ≡ n) 0 17
     (((((((((((((((((tt, refl), refl), refl), refl), refl), refl), refl), refl), refl), refl), refl), refl), refl), refl), refl), refl), refl)
-    k zero-le h
+    k zero-le (omega arith)
 
 raw-word : (k v : ℕ) → operandRaw (operandIn k v) ≡ v
 raw-word k v = by-test (eqb k 16) (λ t. simp t) (λ t. simp t)
 
-single-word : (k : ℕ) → k < 8 → monadicModePlace (monadicModeAt k) ≡ k
-single-word k h =
-    within (λ n. monadicModePlace (monadicModeAt n) ≡ n) 0 8
-    ((((((((tt, refl), refl), refl), refl), refl), refl), refl), refl)
-    k zero-le h
+-- the word of a monadic's mode
+abbrev Word : MonadicModeEntry → ℕ → Type 0
+Word (place.Is m) k = monadicModePlace m ≡ k
+Word place.Unlisted k = Unit {0}
+
+single-word : (k : ℕ) → Word (monadicModeIn k) k
+single-word k =
+    by-test (ltb k 8)
+    (λ t. within (λ n. Word (monadicModeIn n) n) 0 8 ((((((((tt, refl), refl), refl), refl), refl), refl), refl), refl) k zero-le (ltb-true k 8 t))
+    (λ t. rw (le-ltb k 4 (omega (arith, ltb-false k 8 t)), t) tt)
 
 -- ---- an instruction in a block
 
-all-five : (a b c d e : Bool) → (a && b && c && d && e) ≡ true → (a ≡ true) × (b ≡ true) × (c ≡ true) × (d ≡ true) × (e ≡ true)
-all-five a b c d e h =
-    let k = and-left (a && b && c && d) e h in
-    let l = and-left (a && b && c) d k in
-    let m = and-left (a && b) c l in
-    (and-left a b m, and-right a b m, and-right (a && b) c l, and-right (a && b && c) d k, and-right (a && b && c && d) e h)
+all-four : (a b c d : Bool) → (a && b && c && d) ≡ true → (a ≡ true) × (b ≡ true) × (c ≡ true) × (d ≡ true)
+all-four a b c d h =
+    let k = and-left (a && b && c) d h in
+    let l = and-left (a && b) c k in
+    (and-left a b l, and-right a b l, and-right (a && b) c k, and-right (a && b && c) d h)
 
 abbrev block : ℕ → ℕ → ℕ → ℕ → ℕ → ℕ → ℕ → ℕ → List ℕ
 block f r w p s x d y = f ∷ r ∷ w ∷ p ∷ s ∷ x ∷ d ∷ y ∷ []
 
 module _ (r w p s x d y : ℕ) (i : Instruction) where
+  row-words : (e : ShortEntry) → shortNamed e r x y ≡ named i → blockOf i ≡ block 1 r 0 0 0 x 0 y
+  row-words (short.Row q a b) e =
+      by-test (eqb (shortListed q .base) r)
+      (λ t. rw (one i (instruction.Short (record { row = q; source = x; destination = y })) (simp t at e), eqb-true (shortListed q .base) r t) refl)
+      (λ t. no i (simp t at e))
+  row-words short.Stack e = no i e
+  row-words short.Niladic e = no i e
+  row-words short.Prefix e = no i e
+  row-words short.Unimplemented e = no i e
+  row-words short.Trap e = no i e
+  row-words short.Unlisted e = no i e
+
   short-words : shortIn r w p s x d y ≡ named i → blockOf i ≡ block 1 r w p s x d y
   unfolding shortIn
   short-words e = by-test (isShort r w p s d) held (λ t. no i (simp t at e))
     where
       held : isShort r w p s d ≡ true → blockOf i ≡ block 1 r w p s x d y
       held t =
-          let h = all-five (ltb r 39) (eqb w 0) (eqb p 0) (eqb s 0) (eqb d 0) t in
-          rw (
-            one i (instruction.Short (record { row = shortRowAt r; source = x; destination = y })) (simp t at e),
-            short-place r (ltb-true r 39 (h .0)),
-            eqb-true w 0 (h .1),
-            eqb-true p 0 (h .2),
-            eqb-true s 0 (h .3),
-            eqb-true d 0 (h .4),
-          )
-          refl
+          let four = ltb r 0x8000 && eqb w 0 && eqb p 0 && eqb s 0 in
+          let h = all-four (ltb r 0x8000) (eqb w 0) (eqb p 0) (eqb s 0) (and-left four (eqb d 0) t) in
+          rw (eqb-true w 0 (h .1), eqb-true p 0 (h .2), eqb-true s 0 (h .3), eqb-true d 0 (and-right four (eqb d 0) t))
+          (row-words (shortEntry (shortOf (r / 1024 % 32)) r) (simp t at e))
 
-  dyadic-words : dyadicIn r w p s x d y ≡ named i → blockOf i ≡ block 2 r w p s x d y
+  both-words : (u : Wide) (e : DyadicEntry) → dyadics.RowThere e r → isDyadic p s d ≡ true
+      → dyadicNamed e u p (operandIn s x) (operandIn d y) ≡ named i → blockOf i ≡ block 2 r (wideLength u) p s x d y
+  both-words u (dyadic.Row q v) t z e =
+      let a = ltb p 2 && leb s 16 in
+      let h = and-left a (leb d 16) z in
+      let sm : s ≤ 16 = leb-true s 16 (and-right (ltb p 2) (leb s 16) h) in
+      let dm : d ≤ 16 = leb-true d 16 (and-right a (leb d 16) z) in
+      rw (
+        one i (instruction.Dyadic (record { row = q; wide = u; prefix = eqb p 1; source = operandIn s x; destination = operandIn d y })) e,
+        t .0,
+        prefix-word p (ltb-true p 2 (and-left (ltb p 2) (leb s 16) h)),
+        mode-word s x sm,
+        raw-word s x,
+        mode-word d y dm,
+        raw-word d y,
+      )
+      refl
+  both-words u dyadic.Unimplemented t z e = no i e
+  both-words u dyadic.Unlisted t z e = no i e
+
+  dyadic-words : (u : Wide) → dyadicIn u r p s x d y ≡ named i → blockOf i ≡ block 2 r (wideLength u) p s x d y
   unfolding dyadicIn
-  dyadic-words e = by-test (isDyadic r w p s d) held (λ t. no i (simp t at e))
-    where
-      held : isDyadic r w p s d ≡ true → blockOf i ≡ block 2 r w p s x d y
-      held t =
-          let h = all-five (ltb r 35) (eqb w 3 || eqb w 5) (ltb p 2) (leb s 16) (leb d 16) t in
-          let sm : s ≤ 16 = leb-true s 16 (h .3) in
-          let dm : d ≤ 16 = leb-true d 16 (h .4) in
-          rw (
-            one i (instruction.Dyadic (record { row = dyadicRowAt r; wide = wideIn w; prefix = eqb p 1; source = operandIn s x; destination = operandIn d y })) (simp t at e),
-            dyadic-place r (ltb-true r 35 (h .0)),
-            wide-word w (h .1),
-            prefix-word p (ltb-true p 2 (h .2)),
-            mode-word s x (omega arith),
-            raw-word s x,
-            mode-word d y (omega arith),
-            raw-word d y,
-          )
-          refl
+  dyadic-words u e = by-test (isDyadic p s d) (λ t. both-words u (dyadicOf r) (dyadic-there r) t (simp t at e)) (λ t. no i (simp t at e))
+
+  single-words : (e : MonadicEntry) (f : MonadicModeEntry) → monadics.RowThere e r → Word f s → isMonadic w p d y ≡ true
+      → monadicNamed e p f x ≡ named i → blockOf i ≡ block 3 r w p s x d y
+  single-words (monadic.Row q u) (place.Is m) t k z e =
+      let h = all-four (eqb w 0) (ltb p 2) (eqb d 0) (eqb y 0) z in
+      rw (
+        one i (instruction.Monadic (record { row = q; prefix = eqb p 1; mode = m; value = x })) e,
+        t .0,
+        eqb-true w 0 (h .0),
+        prefix-word p (ltb-true p 2 (h .1)),
+        k,
+        eqb-true d 0 (h .2),
+        eqb-true y 0 (h .3),
+      )
+      refl
+  single-words (monadic.Row q u) place.Unlisted t k z e = no i e
+  single-words monadic.Unimplemented f t k z e = no i e
+  single-words monadic.Unlisted f t k z e = no i e
 
   monadic-words : monadicIn r w p s x d y ≡ named i → blockOf i ≡ block 3 r w p s x d y
   unfolding monadicIn
-  monadic-words e = by-test (isMonadic r w p s d y) held (λ t. no i (simp t at e))
-    where
-      held : isMonadic r w p s d y ≡ true → blockOf i ≡ block 3 r w p s x d y
-      held t =
-          let five = ltb r 14 && eqb w 0 && ltb p 2 && ltb s 8 && eqb d 0 in
-          let h = all-five (ltb r 14) (eqb w 0) (ltb p 2) (ltb s 8) (eqb d 0) (and-left five (eqb y 0) t) in
-          rw (
-            one i (instruction.Monadic (record { row = monadicRowAt r; prefix = eqb p 1; mode = monadicModeAt s; value = x })) (simp t at e),
-            monadic-place r (ltb-true r 14 (h .0)),
-            eqb-true w 0 (h .1),
-            prefix-word p (ltb-true p 2 (h .2)),
-            single-word s (ltb-true s 8 (h .3)),
-            eqb-true d 0 (h .4),
-            eqb-true y 0 (and-right five (eqb y 0) t),
-          )
-          refl
+  monadic-words e =
+      by-test (isMonadic w p d y)
+      (λ t. single-words (monadicOf r) (monadicModeIn s) (monadic-there r) (single-word s) t (simp t at e))
+      (λ t. no i (simp t at e))
+
+  -- a dyadic of so many parcels
+  of-length : (f n : ℕ) (u : Wide) → wideLength u ≡ n → (eqb f 2 && eqb w n) ≡ true → dyadicIn u r p s x d y ≡ named i
+      → blockOf i ≡ block f r w p s x d y
+  of-length f n u l t e =
+      rw (eqb-true f 2 (and-left (eqb f 2) (eqb w n) t), eqb-true w n (and-right (eqb f 2) (eqb w n) t), sym l) (dyadic-words u e)
 
   form-words : (f : ℕ) → formIn f r w p s x d y ≡ named i → blockOf i ≡ block f r w p s x d y
   unfolding formIn
   form-words f e =
       by-test (eqb f 1)
       (λ t. rw (eqb-true f 1 t) (short-words (simp t at e)))
-      (λ t. by-test (eqb f 2)
-      (λ u. rw (eqb-true f 2 u) (dyadic-words (simp (t, u) at e)))
-      (λ u. by-test (eqb f 3)
-      (λ v. rw (eqb-true f 3 v) (monadic-words (simp (t, u, v) at e)))
-      (λ v. no i (simp (t, u, v) at e))))
+      (λ t. by-test (eqb f 2 && eqb w 3)
+      (λ u. of-length f 3 Three refl u (simp (t, u) at e))
+      (λ u. by-test (eqb f 2 && eqb w 5)
+      (λ v. of-length f 5 Five refl v (simp (t, u, v) at e))
+      (λ v. by-test (eqb f 3)
+      (λ z. rw (eqb-true f 3 z) (monadic-words (simp (t, u, v, z) at e)))
+      (λ z. no i (simp (t, u, v, z) at e)))))
 
 -- the eight words of a list, as a block
 abbrev blockIn : List ℕ → List ℕ

@@ -1,92 +1,156 @@
 -- What each way out of the functions that read a block has to show.
 -- Assumes nothing.
-use Prim.Native.Nat.{ℕ}
-use mathlib.Core.Path.{_≡_, refl, sym, _∙_}
-use mathlib.Core.Bool.{Bool, true, false}
+use Prim.Native.Nat.{ℕ, _+_, _/_, _%_, _<_, _≤_}
+use mathlib.Core.Path.{_≡_, refl, sym, ap, _∙_}
+use mathlib.Core.Bool.{Bool, true, false, _&&_}
 use mathlib.Core.List.{List}
-use borrow.Author.Tests.{eq-eqb, ne-eqb}
+use borrow.Author.Tests.{eq-eqb, ne-eqb, lt-ltb, le-ltb, ltb-true}
 use lib.ListN.{length, getD}
-use lib.Dec.{eqb}
+use lib.Dec.{ltb, eqb}
+use Rattle.laws.proofs.Cases.{and-left}
 use Rattle.isa.specs.declared.ShortRow.{ShortRow}
+use Rattle.isa.specs.declared.FieldMode.{FieldMode}
+use Rattle.isa.specs.declared.ShortEntry.{ShortEntry}
+use Rattle.isa.specs.declared.ShortEntry.the-variants as short
+use Rattle.isa.specs.declared.ShortListed.{ShortListed}
 use Rattle.isa.specs.declared.DyadicRow.{DyadicRow}
-use Rattle.isa.specs.declared.MonadicRow.{MonadicRow}
+use Rattle.isa.specs.declared.Rule.{Rule}
+use Rattle.isa.specs.declared.DyadicEntry.{DyadicEntry}
+use Rattle.isa.specs.declared.DyadicEntry.the-variants as dyadic
 use Rattle.isa.specs.declared.Mode.{Mode}
+use Rattle.isa.specs.declared.ModeEntry.{ModeEntry}
+use Rattle.isa.specs.declared.MonadicRow.{MonadicRow}
+use Rattle.isa.specs.declared.MonadicRule.{MonadicRule}
+use Rattle.isa.specs.declared.MonadicRule.the-variants as rule
+use Rattle.isa.specs.declared.MonadicEntry.{MonadicEntry}
+use Rattle.isa.specs.declared.MonadicEntry.the-variants as monadic
 use Rattle.isa.specs.declared.MonadicMode.{MonadicMode}
+use Rattle.isa.specs.declared.MonadicModeEntry.{MonadicModeEntry}
+use Rattle.isa.specs.declared.MonadicModeEntry.the-variants as place
 use Rattle.isa.specs.declared.Operand.{Operand}
 use Rattle.isa.specs.declared.Operand.the-variants.{General, Register}
 use Rattle.isa.specs.declared.Wide.{Wide}
 use Rattle.isa.specs.declared.Wide.the-variants.{Three, Five}
 use Rattle.isa.specs.declared.Instruction.the-variants as instruction
-use Rattle.numbering.specs.declared.Named.{Named}
-use Rattle.numbering.specs.declared.Named.the-variants.{Is as named, Nothing as nothing}
-use Rattle.numbering.specs.Rows.{shortRowAt, dyadicRowAt, monadicRowAt}
-use Rattle.numbering.specs.Numbering.{modeAt, operandIn, monadicModeAt, wideIn, isShort, shortIn, isDyadic, dyadicIn, isMonadic, monadicIn, formIn, instructionIn}
+use Rattle.isa.specs.declared.Encoded.{Encoded}
+use Rattle.isa.specs.declared.Encoded.the-variants.{Refused}
+use Rattle.isa.specs.Tables.{shortOf, dyadicOf, monadicOf, generalOf, monadicModeOf}
+use Rattle.isa.specs.Decode.{shortEntry}
+use Rattle.isa.specs.Encodings.{shortListed}
+use Rattle.isa.specs.Encode.{encodeOf}
+use Rattle.numbering.specs.Numbering.{isShort, shortNamed, shortIn, modeAt, operandIn, isDyadic, dyadicNamed, dyadicIn, monadicModeIn, isMonadic, monadicNamed, monadicIn, formIn, instructionIn}
+use Rattle.numbering.specs.Calls.{codeOf}
 
--- operand_in, wide_in
+-- short_code
+pub a-parcel : (r w p s d : ℕ) → isShort r w p s d ≡ true → r < 0x8000
+a-parcel r w p s d t =
+    let a = ltb r 0x8000 in
+    let b = a && eqb w 0 in
+    let c = b && eqb p 0 in
+    ltb-true r 0x8000 (and-left a (eqb w 0) (and-left b (eqb p 0) (and-left c (eqb s 0) (and-left (c && eqb s 0) (eqb d 0) t))))
+
+module _ (r w p s x d y n : ℕ) where
+  pub short-none : isShort r w p s d ≡ false → Refused 5 ≡ codeOf (shortIn r w p s x d y) n
+  unfolding shortIn
+  short-none t = rw t refl
+
+  module _ (k e : ShortEntry) (t : isShort r w p s d ≡ true) (ek : k ≡ shortOf (r / 1024 % 32)) (ee : e ≡ shortEntry k r) where
+    pub short-at : (g : ShortEntry) (c : Encoded) → e ≡ g → c ≡ codeOf (shortNamed g r x y) n → c ≡ codeOf (shortIn r w p s x d y) n
+    unfolding shortIn
+    short-at g c h i = rw (t, sym ek, sym ee, h) i
+
+    module _ (q : ShortRow) (a b : FieldMode) (l : ShortListed) (h : e ≡ short.Row q a b) (g : l ≡ shortListed q) where
+      at-base : shortListed q .base ≡ l .base
+      at-base = sym (ap (λ (m : ShortListed). m .base) g)
+
+      pub short-held : (c : Encoded) → l .base ≡ r → c ≡ encodeOf (instruction.Short (record { row = q; source = x; destination = y })) n
+          → c ≡ codeOf (shortIn r w p s x d y) n
+      short-held c f i = short-at (short.Row q a b) c h (rw (eq-eqb (shortListed q .base) r (at-base ∙ f)) i)
+
+      pub short-other : (l .base ≡ r → ⊥) → Refused 5 ≡ codeOf (shortIn r w p s x d y) n
+      short-other f = short-at (short.Row q a b) (Refused 5) h (rw (ne-eqb (shortListed q .base) r (λ z. f (sym at-base ∙ z))) refl)
+
+-- operand_in
 pub a-register : (k v : ℕ) → k ≡ 16 → Register v ≡ operandIn k v
-a-register k v h = simp (eq-eqb k 16 h)
+a-register k v h = rw (eq-eqb k 16 h) refl
 
-pub a-mode : (k v : ℕ) (m : Mode) → (k ≡ 16 → ⊥) → m ≡ modeAt k → General m v ≡ operandIn k v
-a-mode k v m h e = simp (ne-eqb k 16 h, e)
+pub a-mode : (k v : ℕ) (e g : ModeEntry) (m : Mode) → (k ≡ 16 → ⊥) → e ≡ generalOf k → e ≡ g → m ≡ modeAt g → General m v ≡ operandIn k v
+a-mode k v e g m h f i j = rw (ne-eqb k 16 h, sym f, i, j) refl
 
-pub three-parcels : (w : ℕ) → w ≡ 3 → Three ≡ wideIn w
-three-parcels w h = simp (eq-eqb w 3 h)
-
-pub five-parcels : (w : ℕ) → (w ≡ 3 → ⊥) → Five ≡ wideIn w
-five-parcels w h = simp (ne-eqb w 3 h)
-
-module _ (r w p s x d y : ℕ) (z : Bool) where
-  -- short_in
-  pub short-held : (o : ShortRow) → z ≡ isShort r w p s d → z ≡ true → o ≡ shortRowAt r
-      → named (instruction.Short (record { row = o; source = x; destination = y })) ≡ shortIn r w p s x d y
-  unfolding shortIn
-  short-held o e t eo = rw (sym e ∙ t, eo) refl
-
-  pub short-none : z ≡ isShort r w p s d → z ≡ false → nothing ≡ shortIn r w p s x d y
-  unfolding shortIn
-  short-none e t = rw (sym e ∙ t) refl
-
-  -- dyadic_in
-  pub dyadic-held : (o : DyadicRow) (v : Wide) (a b : Operand) → z ≡ isDyadic r w p s d → z ≡ true → o ≡ dyadicRowAt r
-      → v ≡ wideIn w → a ≡ operandIn s x → b ≡ operandIn d y
-      → named (instruction.Dyadic (record { row = o; wide = v; prefix = eqb p 1; source = a; destination = b })) ≡ dyadicIn r w p s x d y
+-- dyadic_code
+module _ (w : Wide) (r p s x d y n : ℕ) where
+  pub dyadic-none : isDyadic p s d ≡ false → Refused 5 ≡ codeOf (dyadicIn w r p s x d y) n
   unfolding dyadicIn
-  dyadic-held o v a b e t eo ev ea eb = rw (sym e ∙ t, eo, ev, ea, eb) refl
+  dyadic-none t = rw t refl
 
-  pub dyadic-none : z ≡ isDyadic r w p s d → z ≡ false → nothing ≡ dyadicIn r w p s x d y
-  unfolding dyadicIn
-  dyadic-none e t = rw (sym e ∙ t) refl
+  module _ (e : DyadicEntry) (t : isDyadic p s d ≡ true) (ee : e ≡ dyadicOf r) where
+    pub dyadic-at : (g : DyadicEntry) (c : Encoded) → e ≡ g → c ≡ codeOf (dyadicNamed g w p (operandIn s x) (operandIn d y)) n
+        → c ≡ codeOf (dyadicIn w r p s x d y) n
+    unfolding dyadicIn
+    dyadic-at g c h i = rw (t, sym ee, h) i
 
-  -- monadic_in
-  pub monadic-held : (o : MonadicRow) (m : MonadicMode) → z ≡ isMonadic r w p s d y → z ≡ true → o ≡ monadicRowAt r → m ≡ monadicModeAt s
-      → named (instruction.Monadic (record { row = o; prefix = eqb p 1; mode = m; value = x })) ≡ monadicIn r w p s x d y
+    pub dyadic-held : (q : DyadicRow) (u : Rule) (a b : Operand) (c : Encoded) → e ≡ dyadic.Row q u → a ≡ operandIn s x → b ≡ operandIn d y
+        → c ≡ encodeOf (instruction.Dyadic (record { row = q; wide = w; prefix = eqb p 1; source = a; destination = b })) n
+        → c ≡ codeOf (dyadicIn w r p s x d y) n
+    dyadic-held q u a b c h ea eb i = dyadic-at (dyadic.Row q u) c h (rw (sym ea, sym eb) i)
+
+-- monadic_mode_in
+module _ (k : ℕ) where
+  pub word-mode : (e : MonadicModeEntry) → k < 4 → e ≡ monadicModeOf rule.Word (k + 0xC) → e ≡ monadicModeIn k
+  word-mode e h f = rw (lt-ltb k 4 h) f
+
+  pub flow-mode : (e : MonadicModeEntry) → 4 ≤ k → k < 8 → e ≡ monadicModeOf rule.Flow (k + 8) → e ≡ monadicModeIn k
+  flow-mode e h g f = rw (le-ltb k 4 h, lt-ltb k 8 g) f
+
+  pub no-mode : 4 ≤ k → 8 ≤ k → place.Unlisted ≡ monadicModeIn k
+  no-mode h g = rw (le-ltb k 4 h, le-ltb k 8 g) refl
+
+-- monadic_code
+module _ (r w p s x d y n : ℕ) where
+  pub monadic-none : isMonadic w p d y ≡ false → Refused 5 ≡ codeOf (monadicIn r w p s x d y) n
   unfolding monadicIn
-  monadic-held o m e t eo em = rw (sym e ∙ t, eo, em) refl
+  monadic-none t = rw t refl
 
-  pub monadic-none : z ≡ isMonadic r w p s d y → z ≡ false → nothing ≡ monadicIn r w p s x d y
-  unfolding monadicIn
-  monadic-none e t = rw (sym e ∙ t) refl
+  module _ (e : MonadicEntry) (f : MonadicModeEntry) (t : isMonadic w p d y ≡ true) (ef : f ≡ monadicModeIn s) (ee : e ≡ monadicOf r) where
+    pub monadic-at : (g : MonadicEntry) (c : Encoded) → e ≡ g → c ≡ codeOf (monadicNamed g p f x) n → c ≡ codeOf (monadicIn r w p s x d y) n
+    unfolding monadicIn
+    monadic-at g c h i = rw (t, sym ee, sym ef, h) i
 
--- form_in
-module _ (f r w p s x d y : ℕ) (n : Named) where
-  pub form-short : f ≡ 1 → n ≡ shortIn r w p s x d y → n ≡ formIn f r w p s x d y
+    pub monadic-held : (q : MonadicRow) (u : MonadicRule) (g : MonadicModeEntry) (c : Encoded) → e ≡ monadic.Row q u → f ≡ g
+        → c ≡ codeOf (monadicNamed (monadic.Row q u) p g x) n → c ≡ codeOf (monadicIn r w p s x d y) n
+    monadic-held q u g c h j i = monadic-at (monadic.Row q u) c h (rw j i)
+
+-- encode_block
+module _ (b : List ℕ) (n : ℕ) (c : Encoded) (h : length b ≡ 8) where
+  whole : c ≡ codeOf (formIn (getD b 0 0) (getD b 1 0) (getD b 2 0) (getD b 3 0) (getD b 4 0) (getD b 5 0) (getD b 6 0) (getD b 7 0)) n
+      → c ≡ codeOf (instructionIn b) n
+  unfolding instructionIn
+  whole e = rw (eq-eqb (length b) 8 h) e
+
+  pub in-short : getD b 0 0 ≡ 1 → c ≡ codeOf (shortIn (getD b 1 0) (getD b 2 0) (getD b 3 0) (getD b 4 0) (getD b 5 0) (getD b 6 0) (getD b 7 0)) n
+      → c ≡ codeOf (instructionIn b) n
   unfolding formIn
-  form-short h e = simp (eq-eqb f 1 h) e
+  in-short f e = whole (rw (eq-eqb (getD b 0 0) 1 f) e)
 
-  pub form-dyadic : (f ≡ 1 → ⊥) → f ≡ 2 → n ≡ dyadicIn r w p s x d y → n ≡ formIn f r w p s x d y
-  unfolding formIn
-  form-dyadic a h e = simp (ne-eqb f 1 a, eq-eqb f 2 h) e
+  module _ (f : getD b 0 0 ≡ 1 → ⊥) where
+    pub in-three : (eqb (getD b 0 0) 2 && eqb (getD b 2 0) 3) ≡ true
+        → c ≡ codeOf (dyadicIn Three (getD b 1 0) (getD b 3 0) (getD b 4 0) (getD b 5 0) (getD b 6 0) (getD b 7 0)) n → c ≡ codeOf (instructionIn b) n
+    unfolding formIn
+    in-three g e = whole (rw (ne-eqb (getD b 0 0) 1 f, g) e)
 
-  pub form-monadic : (f ≡ 1 → ⊥) → (f ≡ 2 → ⊥) → f ≡ 3 → n ≡ monadicIn r w p s x d y → n ≡ formIn f r w p s x d y
-  unfolding formIn
-  form-monadic a b h e = simp (ne-eqb f 1 a, ne-eqb f 2 b, eq-eqb f 3 h) e
+    module _ (g : (eqb (getD b 0 0) 2 && eqb (getD b 2 0) 3) ≡ false) where
+      pub in-five : (eqb (getD b 0 0) 2 && eqb (getD b 2 0) 5) ≡ true
+          → c ≡ codeOf (dyadicIn Five (getD b 1 0) (getD b 3 0) (getD b 4 0) (getD b 5 0) (getD b 6 0) (getD b 7 0)) n → c ≡ codeOf (instructionIn b) n
+      unfolding formIn
+      in-five i e = whole (rw (ne-eqb (getD b 0 0) 1 f, g, i) e)
 
-pub form-none : (f r w p s x d y : ℕ) → (f ≡ 1 → ⊥) → (f ≡ 2 → ⊥) → (f ≡ 3 → ⊥) → nothing ≡ formIn f r w p s x d y
-unfolding formIn
-form-none f r w p s x d y a b c = simp (ne-eqb f 1 a, ne-eqb f 2 b, ne-eqb f 3 c)
+      module _ (i : (eqb (getD b 0 0) 2 && eqb (getD b 2 0) 5) ≡ false) where
+        pub in-single : getD b 0 0 ≡ 3
+            → c ≡ codeOf (monadicIn (getD b 1 0) (getD b 2 0) (getD b 3 0) (getD b 4 0) (getD b 5 0) (getD b 6 0) (getD b 7 0)) n
+            → c ≡ codeOf (instructionIn b) n
+        unfolding formIn
+        in-single j e = whole (rw (ne-eqb (getD b 0 0) 1 f, g, i, eq-eqb (getD b 0 0) 3 j) e)
 
--- instruction_in
-pub block-read : (b : List ℕ) (n : Named) → length b ≡ 8
-    → n ≡ formIn (getD b 0 0) (getD b 1 0) (getD b 2 0) (getD b 3 0) (getD b 4 0) (getD b 5 0) (getD b 6 0) (getD b 7 0) → n ≡ instructionIn b
-unfolding instructionIn
-block-read b n h e = simp (eq-eqb (length b) 8 h) e
+        pub in-none : (getD b 0 0 ≡ 3 → ⊥) → c ≡ Refused 5 → c ≡ codeOf (instructionIn b) n
+        unfolding formIn
+        in-none j e = whole (rw (ne-eqb (getD b 0 0) 1 f, g, i, ne-eqb (getD b 0 0) 3 j) e)

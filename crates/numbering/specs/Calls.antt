@@ -10,9 +10,7 @@ use Rattle.isa.specs.declared.Encoded.the-variants as encoded
 use Rattle.isa.specs.Refusals.{noCode, cutText}
 use Rattle.isa.specs.Decode.{decodeOf, textOf}
 use Rattle.isa.specs.Encode.{encodeOf}
-use Rattle.numbering.specs.declared.Named.{Named}
-use Rattle.numbering.specs.declared.Named.the-variants as found
-use Rattle.numbering.specs.Numbering.{blockOf, instructionIn}
+use Rattle.numbering.specs.Numbering.{Named, named, nothing, blockOf, instructionIn}
 
 -- a number, and what a call left where it writes
 pub record Told : Type 0 where
@@ -52,9 +50,10 @@ abbrev pub encodedAs : Encoded → List ℕ → Told
 encodedAs (encoded.Parcels t) ps = told 0 (sixOf t)
 encodedAs (encoded.Refused n) ps = told noCode ps
 
-abbrev pub encodedNamed : Named → ℕ → List ℕ → Told
-encodedNamed (found.Is i) n ps = encodedAs (encodeOf i n) ps
-encodedNamed found.Nothing n ps = told noCode ps
+-- what names no instruction has no code
+abbrev pub codeOf : Named → ℕ → Encoded
+codeOf (named i) n = encodeOf i n
+codeOf nothing n = encoded.Refused noCode
 
 abbrev pub encodedFrom : List ℕ → ℕ → List ℕ → Told
-encodedFrom b n ps = encodedNamed (instructionIn b) n ps
+encodedFrom b n ps = encodedAs (codeOf (instructionIn b) n) ps

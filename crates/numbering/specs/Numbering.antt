@@ -1,38 +1,54 @@
 -- An instruction as a block of eight words, for callers that have no enumerations:
 --   0  form: 1 one parcel, 2 two operands, 3 one operand of 32 bits
---   1  row: its place from 0 in the order of the declared rows
+--   1  row, as the encodings lists number it: the parcel with its operand bits 0, the opcode, or the subcode
 --   2  parcels of a dyadic without its prefix, 3 or 5
 --   3  prefix: 1 if there is a CPU prefix
 --   4  source mode of a dyadic, or the mode of a monadic
 --   5  source value, or the register's number
 --   6  destination mode of a dyadic
 --   7  destination value, or the register's number
--- A word that a form has no use for is 0. What is not of this shape names no instruction: proofs/RoundTrip.antt shows that
--- blocks and instructions are each other's.
+-- A word that a form has no use for is 0. The row of a block is the one that the decoder's tables have at its number. What is
+-- not of this shape names no instruction: proofs/RoundTrip.antt shows that blocks and instructions are each other's.
 -- Assumes nothing.
-use Prim.Native.Nat.{ℕ}
-use mathlib.Core.Bool.{Bool, cond, _&&_, _||_}
+use Prim.Native.Nat.{ℕ, _+_, _/_, _%_}
+use mathlib.Core.Bool.{Bool, cond, _&&_}
 use mathlib.Core.List.{List, [], _∷_}
 use lib.ListN.{length, getD}
 use lib.Dec.{ltb, leb, eqb}
+use Rattle.isa.specs.declared.ShortEntry.{ShortEntry}
+use Rattle.isa.specs.declared.ShortEntry.the-variants as short
+use Rattle.isa.specs.declared.DyadicEntry.{DyadicEntry}
+use Rattle.isa.specs.declared.DyadicEntry.the-variants as dyadic
+use Rattle.isa.specs.declared.MonadicEntry.{MonadicEntry}
+use Rattle.isa.specs.declared.MonadicEntry.the-variants as monadic
 use Rattle.isa.specs.declared.Mode.{Mode}
-use Rattle.isa.specs.declared.Mode.the-variants.{AbsoluteByte, AbsoluteUbyte, AbsoluteHalf, AbsoluteUhalf, StackByte, StackUbyte, StackHalf, StackUhalf, IndirectByte, IndirectUbyte, IndirectHalf, IndirectUhalf, AbsoluteWord, StackWord, IndirectWord, Immediate}
+use Rattle.isa.specs.declared.Mode.the-variants.{Immediate}
+use Rattle.isa.specs.declared.ModeEntry.{ModeEntry}
+use Rattle.isa.specs.declared.ModeEntry.the-variants as mode
+use Rattle.isa.specs.declared.MonadicRule.the-variants as rule
 use Rattle.isa.specs.declared.MonadicMode.{MonadicMode}
 use Rattle.isa.specs.declared.MonadicMode.the-variants.{WordAbsolute, WordStack, WordIndirect, WordImmediate, FlowAbsoluteIndirect, FlowStackIndirect, FlowRelative, FlowAbsolute}
+use Rattle.isa.specs.declared.MonadicModeEntry.{MonadicModeEntry}
+use Rattle.isa.specs.declared.MonadicModeEntry.the-variants as place
 use Rattle.isa.specs.declared.Operand.{Operand}
 use Rattle.isa.specs.declared.Operand.the-variants.{General, Register}
 use Rattle.isa.specs.declared.Wide.{Wide}
 use Rattle.isa.specs.declared.Wide.the-variants.{Three, Five}
 use Rattle.isa.specs.declared.Instruction.{Instruction}
 use Rattle.isa.specs.declared.Instruction.the-variants as instruction
+use Rattle.isa.specs.Tables.{shortOf, dyadicOf, monadicOf, generalOf, monadicModeOf}
+use Rattle.isa.specs.Decode.{shortEntry}
+use Rattle.isa.specs.Encodings.{shortListed, dyadicListed, monadicListed}
 use Rattle.isa.specs.Encode.{modeCode, operandRaw, wideLength, prefixLength}
-use Rattle.numbering.specs.declared.Named.{Named}
-use Rattle.numbering.specs.declared.Named.the-variants.{Is as named, Nothing as nothing}
-use Rattle.numbering.specs.Rows.{shortPlace, shortRowAt, dyadicPlace, dyadicRowAt, monadicPlace, monadicRowAt}
+
+-- what a block holds
+pub data Named : Type 0 where
+  named : Instruction → Named
+  nothing : Named
 
 -- ---- the block of an instruction
 
--- a register comes after the sixteen modes of Table 1-21, which keep their codes: the order in which they are declared
+-- a register comes after the sixteen modes of Table 1-21, which keep their codes
 abbrev pub registerMode : ℕ
 registerMode = 16
 
@@ -52,94 +68,81 @@ monadicModePlace FlowRelative = 6
 monadicModePlace FlowAbsolute = 7
 
 abbrev pub blockOf : Instruction → List ℕ
-blockOf (instruction.Short i) = 1 ∷ shortPlace (i .row) ∷ 0 ∷ 0 ∷ 0 ∷ i .source ∷ 0 ∷ i .destination ∷ []
+blockOf (instruction.Short i) = 1 ∷ shortListed (i .row) .base ∷ 0 ∷ 0 ∷ 0 ∷ i .source ∷ 0 ∷ i .destination ∷ []
 blockOf (instruction.Dyadic i) =
-    2 ∷ dyadicPlace (i .row) ∷ wideLength (i .wide) ∷ prefixLength (i .prefix)
+    2 ∷ dyadicListed (i .row) .opcode ∷ wideLength (i .wide) ∷ prefixLength (i .prefix)
     ∷ operandMode (i .source) ∷ operandRaw (i .source)
     ∷ operandMode (i .destination) ∷ operandRaw (i .destination) ∷ []
 blockOf (instruction.Monadic i) =
-    3 ∷ monadicPlace (i .row) ∷ 0 ∷ prefixLength (i .prefix) ∷ monadicModePlace (i .mode) ∷ i .value ∷ 0 ∷ 0 ∷ []
+    3 ∷ monadicListed (i .row) .subcode ∷ 0 ∷ prefixLength (i .prefix) ∷ monadicModePlace (i .mode) ∷ i .value ∷ 0 ∷ 0 ∷ []
 
--- ---- the instruction in a block
+-- ---- the instruction in a block: row r, parcels w, prefix p, source mode s and value x, destination mode d and value y
 
--- by the code, below 16 where it is used
-abbrev pub modes : List Mode
-modes =
-    AbsoluteByte
-    ∷ AbsoluteUbyte
-    ∷ AbsoluteHalf
-    ∷ AbsoluteUhalf
-    ∷ StackByte
-    ∷ StackUbyte
-    ∷ StackHalf
-    ∷ StackUhalf
-    ∷ IndirectByte
-    ∷ IndirectUbyte
-    ∷ IndirectHalf
-    ∷ IndirectUhalf
-    ∷ AbsoluteWord
-    ∷ StackWord
-    ∷ IndirectWord
-    ∷ Immediate
-    ∷ []
+-- one parcel: the row that the tables have at r, if r has no operand bits
+abbrev pub shortNamed : ShortEntry → ℕ → ℕ → ℕ → Named
+shortNamed (short.Row q s d) r x y =
+    cond (eqb (shortListed q .base) r)
+    (named (instruction.Short (record { row = q; source = x; destination = y })))
+    nothing
+shortNamed short.Stack r x y = nothing
+shortNamed short.Niladic r x y = nothing
+shortNamed short.Prefix r x y = nothing
+shortNamed short.Unimplemented r x y = nothing
+shortNamed short.Trap r x y = nothing
+shortNamed short.Unlisted r x y = nothing
 
-abbrev pub modeAt : ℕ → Mode
-modeAt k = getD modes k Immediate
-
-abbrev pub operandIn : ℕ → ℕ → Operand
-operandIn k v = cond (eqb k registerMode) (Register v) (General (modeAt k) v)
-
-abbrev pub monadicModes : List MonadicMode
-monadicModes =
-    WordAbsolute
-    ∷ WordStack
-    ∷ WordIndirect
-    ∷ WordImmediate
-    ∷ FlowAbsoluteIndirect
-    ∷ FlowStackIndirect
-    ∷ FlowRelative
-    ∷ FlowAbsolute
-    ∷ []
-
-abbrev pub monadicModeAt : ℕ → MonadicMode
-monadicModeAt k = getD monadicModes k FlowAbsolute
-
--- the words of a block after the form: row r, parcels w, prefix p, source mode s and value x, destination mode d and value y
 abbrev pub isShort : ℕ → ℕ → ℕ → ℕ → ℕ → Bool
-isShort r w p s d = ltb r 39 && eqb w 0 && eqb p 0 && eqb s 0 && eqb d 0
+isShort r w p s d = ltb r 0x8000 && eqb w 0 && eqb p 0 && eqb s 0 && eqb d 0
 
 unfoldable pub shortIn : ℕ → ℕ → ℕ → ℕ → ℕ → ℕ → ℕ → Named
 shortIn r w p s x d y =
-    cond (isShort r w p s d)
-    (named (instruction.Short (record { row = shortRowAt r; source = x; destination = y })))
-    nothing
+    cond (isShort r w p s d) (shortNamed (shortEntry (shortOf (r / 1024 % 32)) r) r x y) nothing
 
-abbrev pub isDyadic : ℕ → ℕ → ℕ → ℕ → ℕ → Bool
-isDyadic r w p s d = ltb r 35 && (eqb w 3 || eqb w 5) && ltb p 2 && leb s registerMode && leb d registerMode
+-- two operands: a mode by Table 1-21, whose numbers end below registerMode, so that no other entry is found
+abbrev pub modeAt : ModeEntry → Mode
+modeAt (mode.General m) = m
+modeAt mode.Register = Immediate
+modeAt mode.Unlisted = Immediate
 
-abbrev pub wideIn : ℕ → Wide
-wideIn w = cond (eqb w 3) Three Five
+abbrev pub operandIn : ℕ → ℕ → Operand
+operandIn k v = cond (eqb k registerMode) (Register v) (General (modeAt (generalOf k)) v)
 
-unfoldable pub dyadicIn : ℕ → ℕ → ℕ → ℕ → ℕ → ℕ → ℕ → Named
-dyadicIn r w p s x d y =
-    cond (isDyadic r w p s d)
-    (named (instruction.Dyadic (record { row = dyadicRowAt r; wide = wideIn w; prefix = eqb p 1; source = operandIn s x; destination = operandIn d y })))
-    nothing
+abbrev pub dyadicNamed : DyadicEntry → Wide → ℕ → Operand → Operand → Named
+dyadicNamed (dyadic.Row q u) w p a b =
+    named (instruction.Dyadic (record { row = q; wide = w; prefix = eqb p 1; source = a; destination = b }))
+dyadicNamed dyadic.Unimplemented w p a b = nothing
+dyadicNamed dyadic.Unlisted w p a b = nothing
 
-abbrev pub isMonadic : ℕ → ℕ → ℕ → ℕ → ℕ → ℕ → Bool
-isMonadic r w p m d y = ltb r 14 && eqb w 0 && ltb p 2 && ltb m 8 && eqb d 0 && eqb y 0
+abbrev pub isDyadic : ℕ → ℕ → ℕ → Bool
+isDyadic p s d = ltb p 2 && leb s registerMode && leb d registerMode
+
+unfoldable pub dyadicIn : Wide → ℕ → ℕ → ℕ → ℕ → ℕ → ℕ → Named
+dyadicIn w r p s x d y = cond (isDyadic p s d) (dyadicNamed (dyadicOf r) w p (operandIn s x) (operandIn d y)) nothing
+
+-- one operand: the word modes of Table 1-21, then the modes of Table 1-23, both from their code 0xC on
+abbrev pub monadicModeIn : ℕ → MonadicModeEntry
+monadicModeIn k =
+    cond (ltb k 4) (monadicModeOf rule.Word (k + 0xC)) (cond (ltb k 8) (monadicModeOf rule.Flow (k + 8)) place.Unlisted)
+
+abbrev pub monadicNamed : MonadicEntry → ℕ → MonadicModeEntry → ℕ → Named
+monadicNamed (monadic.Row q u) p (place.Is m) x =
+    named (instruction.Monadic (record { row = q; prefix = eqb p 1; mode = m; value = x }))
+monadicNamed (monadic.Row q u) p place.Unlisted x = nothing
+monadicNamed monadic.Unimplemented p m x = nothing
+monadicNamed monadic.Unlisted p m x = nothing
+
+abbrev pub isMonadic : ℕ → ℕ → ℕ → ℕ → Bool
+isMonadic w p d y = eqb w 0 && ltb p 2 && eqb d 0 && eqb y 0
 
 unfoldable pub monadicIn : ℕ → ℕ → ℕ → ℕ → ℕ → ℕ → ℕ → Named
-monadicIn r w p m x d y =
-    cond (isMonadic r w p m d y)
-    (named (instruction.Monadic (record { row = monadicRowAt r; prefix = eqb p 1; mode = monadicModeAt m; value = x })))
-    nothing
+monadicIn r w p m x d y = cond (isMonadic w p d y) (monadicNamed (monadicOf r) p (monadicModeIn m) x) nothing
 
 unfoldable pub formIn : ℕ → ℕ → ℕ → ℕ → ℕ → ℕ → ℕ → ℕ → Named
 formIn f r w p s x d y =
     cond (eqb f 1) (shortIn r w p s x d y)
-    (cond (eqb f 2) (dyadicIn r w p s x d y)
-    (cond (eqb f 3) (monadicIn r w p s x d y) nothing))
+    (cond (eqb f 2 && eqb w 3) (dyadicIn Three r p s x d y)
+    (cond (eqb f 2 && eqb w 5) (dyadicIn Five r p s x d y)
+    (cond (eqb f 3) (monadicIn r w p s x d y) nothing)))
 
 unfoldable pub instructionIn : List ℕ → Named
 instructionIn b =

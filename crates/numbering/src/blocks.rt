@@ -1,20 +1,16 @@
 // The block of an instruction.
-use crate::places::dyadic_place;
-use crate::places::mode_place;
-use crate::places::monadic_place;
-use crate::places::short_place;
 use encodings::modes::mode_code;
-use isa::DyadicInstruction;
+use encodings::rows::list_dyadic;
+use encodings::rows::list_monadic;
+use encodings::rows::list_short;
 use isa::Instruction;
-use isa::MonadicInstruction;
+use isa::MonadicMode;
 use isa::Operand;
-use isa::ShortInstruction;
 use isa::Wide;
 ghost use mathlib.Core.Path.{_≡_};
 ghost use lib.ListN.{length};
-ghost use Rattle.isa.specs.declared.Instruction.the-variants as instruction;
 ghost use Rattle.isa.specs.Encode.{operandRaw, wideLength, prefixLength};
-ghost use Rattle.numbering.specs.Numbering.{operandMode, blockOf};
+ghost use Rattle.numbering.specs.Numbering.{operandMode, monadicModePlace, blockOf};
 
 // A register has the number after the sixteen modes.
 fn operand_mode(o: Operand) -> u32
@@ -50,55 +46,62 @@ fn prefix_word(prefix: bool) -> u32
     if prefix { 1 } else { 0 }
 }
 
-fn short_block(i: ShortInstruction) -> [u32; 8]
-    ensures { λ r. ⌜ (r ≡ blockOf (instruction.Short i)) × (length r ≡ 8) ⌝ }
+// The place of a monadic's mode in the order of declaration.
+fn mode_place(mode: MonadicMode) -> u32
+    ensures { λ r. ⌜ r ≡ monadicModePlace mode ⌝ }
 {
-    let row = i.row;
-    [1, short_place(row), 0, 0, 0, i.source, 0, i.destination]
-}
-
-fn dyadic_block(i: DyadicInstruction) -> [u32; 8]
-    ensures { λ r. ⌜ (r ≡ blockOf (instruction.Dyadic i)) × (length r ≡ 8) ⌝ }
-{
-    let row = i.row;
-    let w = i.wide;
-    let s = i.source;
-    let d = i.destination;
-    [
-        2,
-        dyadic_place(row),
-        wide_word(w),
-        prefix_word(i.prefix),
-        operand_mode(s),
-        operand_value(s),
-        operand_mode(d),
-        operand_value(d),
-    ]
-}
-
-fn monadic_block(i: MonadicInstruction) -> [u32; 8]
-    ensures { λ r. ⌜ (r ≡ blockOf (instruction.Monadic i)) × (length r ≡ 8) ⌝ }
-{
-    let row = i.row;
-    let mode = i.mode;
-    [
-        3,
-        monadic_place(row),
-        0,
-        prefix_word(i.prefix),
-        mode_place(mode),
-        i.value,
-        0,
-        0,
-    ]
+    match mode {
+        MonadicMode::WordAbsolute => 0,
+        MonadicMode::WordStack => 1,
+        MonadicMode::WordIndirect => 2,
+        MonadicMode::WordImmediate => 3,
+        MonadicMode::FlowAbsoluteIndirect => 4,
+        MonadicMode::FlowStackIndirect => 5,
+        MonadicMode::FlowRelative => 6,
+        MonadicMode::FlowAbsolute => 7,
+    }
 }
 
 pub fn block_of(i: Instruction) -> [u32; 8]
     ensures { λ r. ⌜ (r ≡ blockOf i) × (length r ≡ 8) ⌝ }
 {
     match i {
-        Instruction::Short(s) => short_block(s),
-        Instruction::Dyadic(d) => dyadic_block(d),
-        Instruction::Monadic(m) => monadic_block(m),
+        Instruction::Short(o) => {
+            let row = o.row;
+            let listed = list_short(row);
+            [1, listed.base, 0, 0, 0, o.source, 0, o.destination]
+        }
+        Instruction::Dyadic(o) => {
+            let row = o.row;
+            let w = o.wide;
+            let s = o.source;
+            let d = o.destination;
+            let listed = list_dyadic(row);
+            [
+                2,
+                listed.opcode,
+                wide_word(w),
+                prefix_word(o.prefix),
+                operand_mode(s),
+                operand_value(s),
+                operand_mode(d),
+                operand_value(d),
+            ]
+        }
+        Instruction::Monadic(o) => {
+            let row = o.row;
+            let mode = o.mode;
+            let listed = list_monadic(row);
+            [
+                3,
+                listed.subcode,
+                0,
+                prefix_word(o.prefix),
+                mode_place(mode),
+                o.value,
+                0,
+                0,
+            ]
+        }
     }
 }

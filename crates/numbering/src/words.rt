@@ -1,118 +1,167 @@
-// The instruction in a block. Words after the form: row r, parcels w, prefix p, source mode s and value x, destination
-// mode d and value y.
-use crate::Named;
-use crate::rows::dyadic_row;
-use crate::rows::mode_at;
-use crate::rows::monadic_mode;
-use crate::rows::monadic_row;
-use crate::rows::short_row;
+// The code of the instruction in a block, at a length n in parcels. Words after the form: row r, parcels w, prefix p, source
+// mode s and value x, destination mode d and value y.
+use crate::NO_CODE;
+use decoder::short::find_entry;
+use encoder::encode;
+use encodings::rows::list_short;
+use isa::DyadicEntry;
 use isa::DyadicInstruction;
+use isa::Encoded;
 use isa::Instruction;
+use isa::Mode;
+use isa::ModeEntry;
+use isa::MonadicEntry;
 use isa::MonadicInstruction;
+use isa::MonadicModeEntry;
+use isa::MonadicRule;
 use isa::Operand;
+use isa::ShortEntry;
 use isa::ShortInstruction;
 use isa::Wide;
+use tables::modes::find_general;
+use tables::modes::find_monadic_mode;
+use tables::parcel::find_short;
+use tables::wide::find_dyadic;
+use tables::wide::find_monadic;
 ghost use mathlib.Core.Path.{_≡_};
-ghost use Rattle.numbering.specs.Numbering.{operandIn, wideIn, isShort, isDyadic, isMonadic};
-ghost use Rattle.numbering.specs.Numbering.{shortIn, dyadicIn, monadicIn, formIn, instructionIn};
+ghost use Rattle.numbering.specs.Numbering.{shortIn, operandIn, dyadicIn, monadicModeIn, monadicIn, instructionIn};
+ghost use Rattle.numbering.specs.Calls.{codeOf};
 
+fn short_code(r: u32, w: u32, p: u32, s: u32, x: u32, d: u32, y: u32, n: u32) -> Encoded
+    ensures { λ c. ⌜ c ≡ codeOf (shortIn r w p s x d y) n ⌝ }
+{
+    if (r < 0x8000) & (w == 0) & (p == 0) & (s == 0) & (d == 0) {
+        let e = find_entry(find_short(r / 1024 % 32), r as u16);
+        match e {
+            ShortEntry::Row(q, _, _) => {
+                let listed = list_short(q);
+                if listed.base == r {
+                    encode(
+                        Instruction::Short(ShortInstruction {
+                            row: q,
+                            source: x,
+                            destination: y,
+                        }),
+                        n,
+                    )
+                } else {
+                    Encoded::Refused(NO_CODE)
+                }
+            }
+            ShortEntry::Stack => Encoded::Refused(NO_CODE),
+            ShortEntry::Niladic => Encoded::Refused(NO_CODE),
+            ShortEntry::Prefix => Encoded::Refused(NO_CODE),
+            ShortEntry::Unimplemented => Encoded::Refused(NO_CODE),
+            ShortEntry::Trap => Encoded::Refused(NO_CODE),
+            ShortEntry::Unlisted => Encoded::Refused(NO_CODE),
+        }
+    } else {
+        Encoded::Refused(NO_CODE)
+    }
+}
+
+// Whoever asks has tested the mode's number: the last two arms are never taken.
 fn operand_in(k: u32, v: u32) -> Operand
-    ensures { λ r. ⌜ r ≡ operandIn k v ⌝ }
+    ensures { λ o. ⌜ o ≡ operandIn k v ⌝ }
 {
     if k == 16 {
-        Operand::Register(v)
+        return Operand::Register(v);
+    }
+    let e = find_general(k);
+    match e {
+        ModeEntry::General(m) => Operand::General(m, v),
+        ModeEntry::Register => Operand::General(Mode::Immediate, v),
+        ModeEntry::Unlisted => Operand::General(Mode::Immediate, v),
+    }
+}
+
+fn dyadic_code(w: Wide, r: u32, p: u32, s: u32, x: u32, d: u32, y: u32, n: u32) -> Encoded
+    ensures { λ c. ⌜ c ≡ codeOf (dyadicIn w r p s x d y) n ⌝ }
+{
+    if (p < 2) & (s <= 16) & (d <= 16) {
+        let e = find_dyadic(r);
+        match e {
+            DyadicEntry::Row(q, _) => encode(
+                Instruction::Dyadic(DyadicInstruction {
+                    row: q,
+                    wide: w,
+                    prefix: p == 1,
+                    source: operand_in(s, x),
+                    destination: operand_in(d, y),
+                }),
+                n,
+            ),
+            DyadicEntry::Unimplemented => Encoded::Refused(NO_CODE),
+            DyadicEntry::Unlisted => Encoded::Refused(NO_CODE),
+        }
     } else {
-        Operand::General(mode_at(k), v)
+        Encoded::Refused(NO_CODE)
     }
 }
 
-fn wide_in(w: u32) -> Wide
-    ensures { λ r. ⌜ r ≡ wideIn w ⌝ }
+// The word modes come first, then those of CALL and JMP.
+fn monadic_mode_in(k: u32) -> MonadicModeEntry
+    ensures { λ e. ⌜ e ≡ monadicModeIn k ⌝ }
 {
-    if w == 3 { Wide::Three } else { Wide::Five }
+    if k < 4 {
+        return find_monadic_mode(MonadicRule::Word, k + 0xC);
+    }
+    if k < 8 {
+        return find_monadic_mode(MonadicRule::Flow, k + 8);
+    }
+    MonadicModeEntry::Unlisted
 }
 
-fn is_short(r: u32, w: u32, p: u32, s: u32, d: u32) -> bool
-    ensures { λ z. ⌜ z ≡ isShort r w p s d ⌝ }
+fn monadic_code(r: u32, w: u32, p: u32, s: u32, x: u32, d: u32, y: u32, n: u32) -> Encoded
+    ensures { λ c. ⌜ c ≡ codeOf (monadicIn r w p s x d y) n ⌝ }
 {
-    (r < 39) & (w == 0) & (p == 0) & (s == 0) & (d == 0)
-}
-
-fn is_dyadic(r: u32, w: u32, p: u32, s: u32, d: u32) -> bool
-    ensures { λ z. ⌜ z ≡ isDyadic r w p s d ⌝ }
-{
-    (r < 35) & ((w == 3) | (w == 5)) & (p < 2) & (s <= 16) & (d <= 16)
-}
-
-fn is_monadic(r: u32, w: u32, p: u32, m: u32, d: u32, y: u32) -> bool
-    ensures { λ z. ⌜ z ≡ isMonadic r w p m d y ⌝ }
-{
-    (r < 14) & (w == 0) & (p < 2) & (m < 8) & (d == 0) & (y == 0)
-}
-
-fn short_in(r: u32, w: u32, p: u32, s: u32, x: u32, d: u32, y: u32) -> Named
-    ensures { λ n. ⌜ n ≡ shortIn r w p s x d y ⌝ }
-{
-    if is_short(r, w, p, s, d) {
-        Named::Is(Instruction::Short(ShortInstruction {
-            row: short_row(r),
-            source: x,
-            destination: y,
-        }))
+    if (w == 0) & (p < 2) & (d == 0) & (y == 0) {
+        let mode = monadic_mode_in(s);
+        let e = find_monadic(r);
+        match e {
+            MonadicEntry::Row(q, _) => match mode {
+                MonadicModeEntry::Is(m) => encode(
+                    Instruction::Monadic(MonadicInstruction {
+                        row: q,
+                        prefix: p == 1,
+                        mode: m,
+                        value: x,
+                    }),
+                    n,
+                ),
+                MonadicModeEntry::Unlisted => Encoded::Refused(NO_CODE),
+            },
+            MonadicEntry::Unimplemented => Encoded::Refused(NO_CODE),
+            MonadicEntry::Unlisted => Encoded::Refused(NO_CODE),
+        }
     } else {
-        Named::Nothing
+        Encoded::Refused(NO_CODE)
     }
-}
-
-fn dyadic_in(r: u32, w: u32, p: u32, s: u32, x: u32, d: u32, y: u32) -> Named
-    ensures { λ n. ⌜ n ≡ dyadicIn r w p s x d y ⌝ }
-{
-    if is_dyadic(r, w, p, s, d) {
-        Named::Is(Instruction::Dyadic(DyadicInstruction {
-            row: dyadic_row(r),
-            wide: wide_in(w),
-            prefix: p == 1,
-            source: operand_in(s, x),
-            destination: operand_in(d, y),
-        }))
-    } else {
-        Named::Nothing
-    }
-}
-
-fn monadic_in(r: u32, w: u32, p: u32, m: u32, x: u32, d: u32, y: u32) -> Named
-    ensures { λ n. ⌜ n ≡ monadicIn r w p m x d y ⌝ }
-{
-    if is_monadic(r, w, p, m, d, y) {
-        Named::Is(Instruction::Monadic(MonadicInstruction {
-            row: monadic_row(r),
-            prefix: p == 1,
-            mode: monadic_mode(m),
-            value: x,
-        }))
-    } else {
-        Named::Nothing
-    }
-}
-
-fn form_in(f: u32, r: u32, w: u32, p: u32, s: u32, x: u32, d: u32, y: u32) -> Named
-    ensures { λ n. ⌜ n ≡ formIn f r w p s x d y ⌝ }
-{
-    if f == 1 {
-        return short_in(r, w, p, s, x, d, y);
-    }
-    if f == 2 {
-        return dyadic_in(r, w, p, s, x, d, y);
-    }
-    if f == 3 {
-        return monadic_in(r, w, p, s, x, d, y);
-    }
-    Named::Nothing
 }
 
 // By value, since of a lent block it is not known that it has eight words.
-pub fn instruction_in(b: [u32; 8]) -> Named
-    ensures { λ n. ⌜ n ≡ instructionIn b ⌝ }
+pub fn encode_block(b: [u32; 8], n: u32) -> Encoded
+    ensures { λ c. ⌜ c ≡ codeOf (instructionIn b) n ⌝ }
 {
-    form_in(b[0], b[1], b[2], b[3], b[4], b[5], b[6], b[7])
+    let form = b[0];
+    let r = b[1];
+    let w = b[2];
+    let p = b[3];
+    let s = b[4];
+    let x = b[5];
+    let d = b[6];
+    let y = b[7];
+    if form == 1 {
+        return short_code(r, w, p, s, x, d, y, n);
+    }
+    if (form == 2) & (w == 3) {
+        return dyadic_code(Wide::Three, r, p, s, x, d, y, n);
+    }
+    if (form == 2) & (w == 5) {
+        return dyadic_code(Wide::Five, r, p, s, x, d, y, n);
+    }
+    if form == 3 {
+        return monadic_code(r, w, p, s, x, d, y, n);
+    }
+    Encoded::Refused(NO_CODE)
 }

@@ -41,7 +41,7 @@ ruleOf Abs32 = rule.Jump
 ruleOf Stk32 = rule.Stack
 ruleOf EnterWord32 = rule.Enter
 
-row-back : (r : MonadicRow) → monadicOf (monadicListed r .subcode) ≡ entry.Row r (ruleOf (monadicListed r .operand))
+pub row-back : (r : MonadicRow) → monadicOf (monadicListed r .subcode) ≡ entry.Row r (ruleOf (monadicListed r .operand))
 row-back row.Call = refl
 row-back row.Catch = refl
 row-back row.Enter = refl
@@ -143,12 +143,12 @@ taken EnterWord32 FlowStackIndirect v h = let z : _≡_ {A = ℕ} 0 1 = cc in ab
 taken EnterWord32 FlowRelative v h = let z : _≡_ {A = ℕ} 0 1 = cc in absurd (omega arith)
 taken EnterWord32 FlowAbsolute v h = let z : _≡_ {A = ℕ} 0 1 = cc in absurd (omega arith)
 
-abbrev RowThere : MonadicEntry → ℕ → Type 0
+abbrev pub RowThere : MonadicEntry → ℕ → Type 0
 RowThere (entry.Row r u) k = (monadicListed r .subcode ≡ k) × (ruleOf (monadicListed r .operand) ≡ u)
 RowThere entry.Unimplemented k = Unit {0}
 RowThere entry.Unlisted k = Unit {0}
 
-row-there : (k : ℕ) → k < 16 → RowThere (monadicOf k) k
+pub row-there : (k : ℕ) → k < 16 → RowThere (monadicOf k) k
 row-there k h = within (λ n. RowThere (monadicOf n) n) 0 16 ((((((((((((((((tt, (refl, refl)), (refl, refl)), (refl, refl)), (refl, refl)), (refl, refl)), (refl, refl)), (refl, refl)), (refl, refl)), (refl, refl)), (refl, refl)), (refl, refl)), (refl, refl)), (refl, refl)), tt), tt), (refl, refl)) k zero-le h
 
 abbrev ModeThere : Single → MonadicModeEntry → ℕ → Type 0

@@ -1,3 +1,3 @@
 mod Every
-mod Rows
+pub mod Rows
 pub mod Short

@@ -1,9 +1,8 @@
 //! Decoding and encoding: the library's two calls against the interpreter's decoder, over every first parcel.
 use crate::compare::{Summary, SHOWN};
 use crate::link;
-use crate::machine::decode::{decode, following, row_name, Act, Decoded, Instruction, Monadic, Operand, PREFIX};
-use crate::machine::decode::{FIVE_ROWS, MONADIC_ROWS, THREE_ROWS};
-use crate::machine::tally::ROWS;
+use crate::machine::decode::{decode, following, Act, Decoded, Instruction, Monadic, Operand, PREFIX};
+use crate::machine::decode::{FIVE_ROWS, MONADIC_ROWS, NILADIC_ROWS, STACK_ROWS, THREE_ROWS};
 use crate::random::Random;
 
 /// How often each first parcel is tried, with and without a prefix, before other parcels each time.
@@ -25,58 +24,54 @@ const LEFT: u32 = 0xA5A5_A5A5;
 
 type Block = [u32; 8];
 
-/// By the interpreter's number of a row: its number in a block, which is how many rows of its form have a lower code.
-struct Numbers([u32; ROWS]);
+/// By the interpreter's number of a row: its number in a block, which is its parcel without operands, its opcode or its
+/// subcode.
+fn number(row: usize) -> u32 {
+    let number = match row {
+        0..STACK_ROWS => row << 10,
+        STACK_ROWS..NILADIC_ROWS => 0x02 << 10 | (row - STACK_ROWS) << 8,
+        NILADIC_ROWS..THREE_ROWS => 0x0B << 10 | (row - NILADIC_ROWS),
+        THREE_ROWS..FIVE_ROWS => row - THREE_ROWS,
+        FIVE_ROWS..MONADIC_ROWS => row - FIVE_ROWS,
+        _ => row - MONADIC_ROWS,
+    };
+    number as u32
+}
 
-impl Numbers {
-    fn new() -> Numbers {
-        let mut numbers = [0; ROWS];
-        let mut next = 0;
-        for (row, number) in numbers.iter_mut().enumerate() {
-            if [THREE_ROWS, FIVE_ROWS, MONADIC_ROWS].contains(&row) {
-                next = 0;
-            }
-            *number = next;
-            next += row_name(row).is_some() as u32;
+/// The words of an instruction that the interpreter found.
+fn block(instruction: &Instruction) -> Block {
+    let row = number(instruction.row);
+    let prefix = instruction.prefix as u32;
+    let parcels = instruction.length - prefix;
+    match instruction.act {
+        Act::Dyadic { source, destination, .. } if parcels == 1 => {
+            [1, row, 0, 0, 0, mode_and_value(source).1, 0, mode_and_value(destination).1]
         }
-        Numbers(numbers)
-    }
-
-    /// The words of an instruction that the interpreter found.
-    fn block(&self, instruction: &Instruction) -> Block {
-        let row = self.0[instruction.row];
-        let prefix = instruction.prefix as u32;
-        let parcels = instruction.length - prefix;
-        match instruction.act {
-            Act::Dyadic { source, destination, .. } if parcels == 1 => {
-                [1, row, 0, 0, 0, mode_and_value(source).1, 0, mode_and_value(destination).1]
-            }
-            Act::Monadic { value, .. } if parcels == 1 => [1, row, 0, 0, 0, value, 0, 0],
-            Act::Niladic(_) => [1, row, 0, 0, 0, 0, 0, 0],
-            Act::Dyadic { source, destination, .. } => {
-                let ((from, value), (to, other)) = (mode_and_value(source), mode_and_value(destination));
-                [2, row, parcels, prefix, from, value, to, other]
-            }
-            Act::Monadic { monadic, mode, value } => {
-                // the modes of Table 1-23 come after the word modes of Table 1-21
-                let first = if flows(monadic) { 4 } else { 0 };
-                [3, row, 0, prefix, first + mode as u32 - 0xC, value, 0, 0]
-            }
+        Act::Monadic { value, .. } if parcels == 1 => [1, row, 0, 0, 0, value, 0, 0],
+        Act::Niladic(_) => [1, row, 0, 0, 0, 0, 0, 0],
+        Act::Dyadic { source, destination, .. } => {
+            let ((from, value), (to, other)) = (mode_and_value(source), mode_and_value(destination));
+            [2, row, parcels, prefix, from, value, to, other]
+        }
+        Act::Monadic { monadic, mode, value } => {
+            // the modes of Table 1-23 come after the word modes of Table 1-21
+            let first = if flows(monadic) { 4 } else { 0 };
+            [3, row, 0, prefix, first + mode as u32 - 0xC, value, 0, 0]
         }
     }
+}
 
-    /// What the call has to give for a text: a block or a number.
-    fn expected(&self, text: &[u16]) -> Result<Block, u32> {
-        let needed = needed(text);
-        if text.len() < needed {
-            return Err(CUT_TEXT);
-        }
-        match decode(&text[..needed]) {
-            Decoded::Is(instruction) => Ok(self.block(&instruction)),
-            Decoded::Illegal => Err(ILLEGAL),
-            Decoded::Unimplemented => Err(UNIMPLEMENTED),
-            Decoded::Trap => Err(TRAPPED),
-        }
+/// What the call has to give for a text: a block or a number.
+fn expected(text: &[u16]) -> Result<Block, u32> {
+    let needed = needed(text);
+    if text.len() < needed {
+        return Err(CUT_TEXT);
+    }
+    match decode(&text[..needed]) {
+        Decoded::Is(instruction) => Ok(block(&instruction)),
+        Decoded::Illegal => Err(ILLEGAL),
+        Decoded::Unimplemented => Err(UNIMPLEMENTED),
+        Decoded::Trap => Err(TRAPPED),
     }
 }
 
@@ -152,8 +147,8 @@ fn parcel(random: &mut Random) -> u16 {
 }
 
 impl Summary {
-    fn compare_text(&mut self, numbers: &Numbers, text: &[u16]) -> Option<Block> {
-        let (ours, theirs) = (numbers.expected(text), decoded(text));
+    fn compare_text(&mut self, text: &[u16]) -> Option<Block> {
+        let (ours, theirs) = (expected(text), decoded(text));
         self.texts += 1;
         if ours != theirs {
             self.differences += 1;
@@ -174,13 +169,13 @@ impl Summary {
     }
 
     /// A text whole, before other parcels and cut everywhere; what it decodes to encodes to it at its length alone.
-    fn compare_cuts(&mut self, numbers: &Numbers, parcels: &[u16]) {
+    fn compare_cuts(&mut self, parcels: &[u16]) {
         let whole = needed(parcels);
         for count in 0..whole {
-            self.compare_text(numbers, &parcels[..count]);
+            self.compare_text(&parcels[..count]);
         }
-        self.compare_text(numbers, parcels);
-        if let Some(block) = self.compare_text(numbers, &parcels[..whole]) {
+        self.compare_text(parcels);
+        if let Some(block) = self.compare_text(&parcels[..whole]) {
             for length in 0..8 {
                 let same = length as usize == whole;
                 let ours = if same { Ok(cleared(&parcels[..whole])) } else { Err(NO_CODE) };
@@ -191,7 +186,7 @@ impl Summary {
     }
 
     /// A block that need not name an instruction is refused, or gives parcels that decode to it.
-    fn compare_block(&mut self, numbers: &Numbers, block: &Block, length: u32) {
+    fn compare_block(&mut self, block: &Block, length: u32) {
         self.blocks += 1;
         match encoded(block, length) {
             Err(NO_CODE) => {}
@@ -203,13 +198,23 @@ impl Summary {
                 self.coded += 1;
                 let text = &parcels[..(length as usize).min(6)];
                 let rest_zero = parcels[text.len()..].iter().all(|parcel| *parcel == 0);
-                if self.compare_text(numbers, text) != Some(*block) || !rest_zero {
+                if self.compare_text(text) != Some(*block) || !rest_zero {
                     self.differences += 1;
                     println!("difference: hobbit_encode of {block:X?} at {length} gives {parcels:04X?}");
                 }
             }
         }
     }
+}
+
+/// An opcode's parcel, or a subcode's, and now and then one with operand bits.
+fn row_of_one_parcel(random: &mut Random) -> u32 {
+    let base = match random.below(8) {
+        0 => 0x02 << 10 | random.below(4) << 8,
+        1 | 2 => 0x0B << 10 | random.below(12),
+        _ => random.below(33) << 10,
+    };
+    base + random.chance(5) as u32 * random.below(1024)
 }
 
 /// Words of a block near those of an instruction, and now and then any.
@@ -228,13 +233,11 @@ fn random_block(random: &mut Random) -> (Block, u32) {
         1 => parcel(random) as i16 as u32,
         _ => random.below(64) * 4,
     });
-    let row = random.below(if form == 1 {
-        42
-    } else if form == 2 {
-        37
-    } else {
-        16
-    });
+    let row = match form {
+        1 => row_of_one_parcel(random),
+        2 => random.below(66),
+        _ => random.below(17),
+    };
     let mut block = [form, row, wide, prefix, modes[0], values[0], modes[1], values[1]];
     if form == 3 {
         block[6..].fill(0);
@@ -256,7 +259,6 @@ fn random_block(random: &mut Random) -> (Block, u32) {
 
 /// All first parcels, then random blocks.
 pub fn compare(seed: u64, summary: &mut Summary) {
-    let numbers = Numbers::new();
     let mut random = Random::new(seed);
     for first in 0..=u16::MAX {
         for _ in 0..ROUNDS {
@@ -265,8 +267,8 @@ pub fn compare(seed: u64, summary: &mut Summary) {
             bare[0] = first;
             let mut prefixed = parcels;
             prefixed[..2].copy_from_slice(&[PREFIX, first]);
-            summary.compare_cuts(&numbers, &bare);
-            summary.compare_cuts(&numbers, &prefixed);
+            summary.compare_cuts(&bare);
+            summary.compare_cuts(&prefixed);
         }
         if summary.differences >= SHOWN {
             return;
@@ -274,7 +276,7 @@ pub fn compare(seed: u64, summary: &mut Summary) {
     }
     for _ in 0..BLOCKS {
         let (block, length) = random_block(&mut random);
-        summary.compare_block(&numbers, &block, length);
+        summary.compare_block(&block, length);
         if summary.differences >= SHOWN {
             return;
         }

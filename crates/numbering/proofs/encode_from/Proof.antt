@@ -1,16 +1,23 @@
-use Rattle.numbering.proofs.Exits.{block-coded}
+use Rattle.numbering.proofs.Exits.{written, uncoded}
 use borrow.Author.Needs.{needs}
 use Rattle.numbering.proofs.encode_from.Statement.{statement}
 use Rattle.numbering.proofs.encode_from.Tie as tie
 
-instruction-in-requires : tie.Need-instruction-in-requires
-instruction-in-requires c κs = search needs
+encode-block-requires : tie.Need-encode-block-requires
+encode-block-requires c κs = search needs
 
-encode-into-requires : tie.Need-encode-into-requires
-encode-into-requires c κs = search needs
+enum-known-e : tie.Need-enum-known-e
+enum-known-e c = search needs
+
+enum-told : tie.Need-enum-told
+enum-told c = search needs
 
 returns : tie.Need-returns
-returns c = block-coded _ _ _ _ _ (c .before .before .instruction-in .ensures) (c .encode-into .ensures)
+returns c = search (needs, written)
+
+returns-2 : tie.Need-returns-2
+returns-2 c = search (needs, uncoded)
 
 pub encode-from-spec : {M : Type 1} → statement M
-encode-from-spec = tie.close (tie.spec instruction-in-requires encode-into-requires returns)
+encode-from-spec =
+    tie.close (tie.spec encode-block-requires enum-known-e enum-told returns returns-2)

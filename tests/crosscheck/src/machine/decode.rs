@@ -118,8 +118,8 @@ pub fn following(parcel: u16) -> usize {
 
 // numbers of rows: one parcel 0 to 31, its stack rows 32 to 35, its niladics 36 to 46, three parcels from 48, five from
 // 112, monadics from 176
-const STACK_ROWS: usize = 32;
-const NILADIC_ROWS: usize = 36;
+pub const STACK_ROWS: usize = 32;
+pub const NILADIC_ROWS: usize = 36;
 pub const THREE_ROWS: usize = 48;
 pub const FIVE_ROWS: usize = 112;
 pub const MONADIC_ROWS: usize = 176;
