@@ -1,22 +1,18 @@
--- `main` is safe and ends: nothing has to hold from turn to turn, and each turn leaves one less.
 use borrow.Author.Needs.{needs}
 use Rattle.disassemble.proofs.main.Statement.{statement}
 use Rattle.disassemble.proofs.main.Tie as tie
 
 abbrev Inv-loop : tie.InvT-loop
-Inv-loop block₀ line₀ out₀ length₀ turns₀ block line out length turns = Unit {0}
+Inv-loop block₀ line₀ turns₀ block line turns = Unit {0}
 
 abbrev μ-loop : tie.MeasureT-loop
-μ-loop block₀ line₀ out₀ length₀ turns₀ block line out length turns = turns
+μ-loop block₀ line₀ turns₀ block line turns = turns
+
+large-buffer-requires : tie.Need-large-buffer-requires Inv-loop μ-loop
+large-buffer-requires c κs = search needs
 
 slice-aggregate-block : tie.Need-slice-aggregate-block Inv-loop μ-loop
 slice-aggregate-block c = search needs
-
-slice-aggregate-line : tie.Need-slice-aggregate-line Inv-loop μ-loop
-slice-aggregate-line c = search needs
-
-slice-aggregate-out : tie.Need-slice-aggregate-out Inv-loop μ-loop
-slice-aggregate-out c = search needs
 
 loop-holds : tie.Need-loop-holds Inv-loop μ-loop
 loop-holds c = search needs
@@ -26,9 +22,6 @@ read-requires c κs = search needs
 
 count-requires : tie.Need-count-requires Inv-loop μ-loop
 count-requires c κs = search needs
-
-finish-requires : tie.Need-finish-requires Inv-loop μ-loop
-finish-requires c κs = search needs
 
 returns : tie.Need-returns Inv-loop μ-loop
 returns c = search needs
@@ -60,13 +53,11 @@ main-spec =
     (tie.spec
     Inv-loop
     μ-loop
+    large-buffer-requires
     slice-aggregate-block
-    slice-aggregate-line
-    slice-aggregate-out
     loop-holds
     read-requires
     count-requires
-    finish-requires
     returns
     slice-reshare-prefix-take-block
     slice-aggregate-take-block

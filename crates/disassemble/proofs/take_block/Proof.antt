@@ -1,5 +1,3 @@
--- `take_block` is safe and ends: the buffers keep their lengths, and each turn leaves one byte less of the block.
-use mathlib.Core.Path.{_≡_}
 use Prim.Native.Nat.{_-_}
 use lib.ListN.{length}
 use borrow.Author.Needs.{needs}
@@ -7,10 +5,10 @@ use Rattle.disassemble.proofs.take_block.Statement.{statement}
 use Rattle.disassemble.proofs.take_block.Tie as tie
 
 abbrev Inv-loop : tie.InvT-loop
-Inv-loop block line₀ out₀ n p₀ i₀ line out p i = (length line ≡ length line₀) × (length out ≡ length out₀)
+Inv-loop block next₀ i₀ next i = Unit {0}
 
 abbrev μ-loop : tie.MeasureT-loop
-μ-loop block line₀ out₀ n p₀ i₀ line out p i = length block - i
+μ-loop block next₀ i₀ next i = length block - i
 
 loop-holds : tie.Need-loop-holds Inv-loop μ-loop
 loop-holds c = search needs
@@ -30,15 +28,6 @@ loop-less c = search needs
 loop-again : tie.Need-loop-again Inv-loop μ-loop
 loop-again c = search needs
 
-flush-requires : tie.Need-flush-requires Inv-loop μ-loop
-flush-requires c κs = search needs
-
-same-length : tie.Need-same-length Inv-loop μ-loop
-same-length c = search needs
-
-same-length-2 : tie.Need-same-length-2 Inv-loop μ-loop
-same-length-2 c = search needs
-
 returns : tie.Need-returns Inv-loop μ-loop
 returns c = search needs
 
@@ -54,7 +43,4 @@ take-block-spec =
     add-i
     loop-less
     loop-again
-    flush-requires
-    same-length
-    same-length-2
     returns)
