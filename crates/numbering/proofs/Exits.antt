@@ -12,7 +12,7 @@ use Rattle.isa.specs.declared.Encoded.{Encoded}
 use Rattle.isa.specs.declared.Encoded.the-variants as encoded
 use Rattle.isa.specs.Decode.{decodeOf, textOf}
 use Rattle.numbering.specs.Numbering.{blockOf, instructionIn}
-use Rattle.numbering.specs.Calls.{Told, told, decodedAs, decodedInto, sixOf, encodedAs, codeOf, encodedFrom}
+use Rattle.numbering.specs.Calls.{Told, told, decodedAs, decodedInto, sixOf, codeOf, encodedFrom}
 
 -- block_of
 pub block-at : (i j : Instruction) (b : List ℕ) → i ≡ j → b ≡ blockOf j → length b ≡ 8 → (b ≡ blockOf i) × (length b ≡ 8)

@@ -1,7 +1,7 @@
 -- The block of an instruction names it, and a block that names an instruction is that instruction's block. That the tables
 -- have a row where the lists have it, and the other way round, is from the round trip of decoder and encoder.
 -- Assumes nothing.
-use Prim.Native.Nat.{ℕ, zero, suc, zero-le, _+_, _/_, _%_, _<_, _≤_}
+use Prim.Native.Nat.{ℕ, zero, suc, zero-le, _/_, _%_, _<_, _≤_}
 use mathlib.Core.Path.{_≡_, refl, sym, ap, subst, _∙_}
 use mathlib.Core.Bool.{Bool, true, false, _&&_}
 use mathlib.Core.List.{List, [], _∷_}
@@ -22,8 +22,6 @@ use Rattle.isa.specs.declared.ShortInstruction.{ShortInstruction}
 use Rattle.isa.specs.declared.DyadicRow.{DyadicRow}
 use Rattle.isa.specs.declared.DyadicEntry.{DyadicEntry}
 use Rattle.isa.specs.declared.DyadicEntry.the-variants as dyadic
-use Rattle.isa.specs.declared.ModeEntry.{ModeEntry}
-use Rattle.isa.specs.declared.ModeEntry.the-variants as mode
 use Rattle.isa.specs.declared.MonadicEntry.{MonadicEntry}
 use Rattle.isa.specs.declared.MonadicEntry.the-variants as monadic
 use Rattle.isa.specs.declared.MonadicMode.{MonadicMode}
@@ -37,14 +35,14 @@ use Rattle.isa.specs.declared.Wide.the-variants.{Three, Five}
 use Rattle.isa.specs.declared.Instruction.{Instruction}
 use Rattle.isa.specs.declared.Instruction.the-variants as instruction
 use Rattle.isa.specs.declared.Answer.the-variants as answer
-use Rattle.isa.specs.Tables.{shortOf, dyadicTable, dyadicOf, monadicTable, monadicOf, generalTable, generalOf}
+use Rattle.isa.specs.Tables.{shortOf, dyadicTable, dyadicOf, monadicTable, monadicOf}
 use Rattle.isa.specs.Decode.{shortEntry, shortAnswer, shortInstruction, decodeShort}
-use Rattle.isa.specs.Encodings.{shortListed, dyadicListed, monadicListed}
+use Rattle.isa.specs.Encodings.{shortListed, dyadicListed}
 use Rattle.isa.specs.Encode.{rawField, sourcePlace, shortParcel, modeCode, operandRaw, wideLength, prefixLength}
 use Rattle.roundtrip_short.proofs.Rows as short-rows
 use Rattle.roundtrip.proofs.DyadicTables as dyadics
 use Rattle.roundtrip.proofs.Monadic as monadics
-use Rattle.numbering.specs.Numbering.{Named, named, nothing, operandMode, monadicModePlace, blockOf, shortNamed, isShort, shortIn, modeAt, operandIn, isDyadic, dyadicNamed, dyadicIn, monadicModeIn, monadicNamed, isMonadic, monadicIn, formIn, instructionIn}
+use Rattle.numbering.specs.Numbering.{named, nothing, operandMode, monadicModePlace, blockOf, shortNamed, isShort, shortIn, operandIn, isDyadic, dyadicNamed, dyadicIn, monadicModeIn, monadicNamed, isMonadic, monadicIn, formIn, instructionIn}
 
 -- ---- the parts of an instruction
 

@@ -2,7 +2,7 @@
 -- Assumes nothing.
 use Prim.Native.Nat.{ℕ, _+_, _/_, _%_, _<_, _≤_}
 use mathlib.Core.Path.{_≡_, refl, sym, ap, _∙_}
-use mathlib.Core.Bool.{Bool, true, false, _&&_}
+use mathlib.Core.Bool.{true, false, _&&_}
 use mathlib.Core.List.{List}
 use borrow.Author.Tests.{eq-eqb, ne-eqb, lt-ltb, le-ltb, ltb-true}
 use lib.ListN.{length, getD}
@@ -24,7 +24,6 @@ use Rattle.isa.specs.declared.MonadicRule.{MonadicRule}
 use Rattle.isa.specs.declared.MonadicRule.the-variants as rule
 use Rattle.isa.specs.declared.MonadicEntry.{MonadicEntry}
 use Rattle.isa.specs.declared.MonadicEntry.the-variants as monadic
-use Rattle.isa.specs.declared.MonadicMode.{MonadicMode}
 use Rattle.isa.specs.declared.MonadicModeEntry.{MonadicModeEntry}
 use Rattle.isa.specs.declared.MonadicModeEntry.the-variants as place
 use Rattle.isa.specs.declared.Operand.{Operand}
