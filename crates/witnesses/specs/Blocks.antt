@@ -1,0 +1,55 @@
+-- Wrong answers of the C calls on blocks of words and on bytes, each at an input at which the definition answers otherwise.
+-- Assumes nothing.
+use Prim.Native.Nat.{ℕ}
+use mathlib.Core.Bool.{Bool}
+use mathlib.Core.List.{List, [], _∷_}
+use lib.ListN.{replicate, getD}
+use lib.Dec.{T}
+use Rattle.isa.specs.Decode.{decodeShort, decodeWide, decodeBare, decodeOf}
+use Rattle.isa.specs.Encode.{encodeShort, encodeDyadic, encodeOf}
+use Rattle.numbering.specs.Numbering.{shortIn, dyadicIn, formIn, instructionIn}
+use Rattle.numbering.specs.Calls.{Told, decodedInto, encodedFrom}
+use Rattle.hobbit.specs.Bytes.{storedAt, loadedFrom}
+use Rattle.witnesses.specs.Boards.{is, all}
+
+-- what is lent: a block and parcels of sevens
+abbrev pub block : List ℕ
+block = replicate 8 7
+
+abbrev pub parcels : List ℕ
+parcels = replicate 6 7
+
+abbrev pub wordAt : Told → ℕ → ℕ
+wordAt t i = getD (t .words) i 0
+
+-- four bytes of memory
+abbrev pub memory : List ℕ
+memory = 1 ∷ 2 ∷ 3 ∷ 4 ∷ []
+
+unfoldable pub blocks : List Bool
+blocks =
+    -- KRET and NOP with one number
+    is (wordAt (decodedInto (0x2C02 ∷ []) block) 1) 0x2C02 0x2C01
+    -- a cut text that clears the block, or is answered as illegal
+    ∷ is (decodedInto (0xE3FD ∷ []) block .number) 6 0x103
+    ∷ is (wordAt (decodedInto (0xE3FD ∷ []) block) 0) 7 0
+    -- the row 4, which is MOVA's opcode, read as UREM's
+    ∷ is (wordAt (encodedFrom (2 ∷ 4 ∷ 3 ∷ 0 ∷ 13 ∷ 0 ∷ 13 ∷ 4 ∷ []) 3 parcels) 0) 0x84DD 0x85DD
+    -- one parcel with a destination mode, or with operand bits in its row
+    ∷ is (encodedFrom (1 ∷ 0x5000 ∷ 0 ∷ 0 ∷ 0 ∷ 5 ∷ 0 ∷ 0 ∷ []) 1 parcels .number) 0 5
+    ∷ is (encodedFrom (1 ∷ 0x5000 ∷ 0 ∷ 0 ∷ 0 ∷ 5 ∷ 1 ∷ 0 ∷ []) 1 parcels .number) 5 0
+    ∷ is (encodedFrom (1 ∷ 0x50A0 ∷ 0 ∷ 0 ∷ 0 ∷ 5 ∷ 0 ∷ 0 ∷ []) 1 parcels .number) 5 0
+    -- any length taken, and parcels changed by a refusal
+    ∷ is (encodedFrom (1 ∷ 0x5000 ∷ 0 ∷ 0 ∷ 0 ∷ 5 ∷ 0 ∷ 0 ∷ []) 3 parcels .number) 5 0
+    ∷ is (wordAt (encodedFrom (1 ∷ 0x5000 ∷ 0 ∷ 0 ∷ 0 ∷ 5 ∷ 0 ∷ 0 ∷ []) 3 parcels) 0) 7 0
+    -- bytes stored at the start whatever the address, or past the end; loaded from another place, or past the end
+    ∷ is (getD (storedAt memory 2 (9 ∷ []) .memory) 2 0) 9 3
+    ∷ is (getD (storedAt memory 2 (9 ∷ []) .memory) 0 0) 1 9
+    ∷ is (storedAt memory 3 (9 ∷ 9 ∷ []) .refusal) 8 0
+    ∷ is (getD (loadedFrom memory 2 (0 ∷ []) .memory) 0 0) 3 1
+    ∷ is (loadedFrom memory 3 (0 ∷ 0 ∷ []) .refusal) 8 0
+    ∷ []
+
+pub blocks-checked : T (all blocks)
+unfolding blocks decodeShort decodeWide decodeBare decodeOf encodeShort encodeDyadic encodeOf shortIn dyadicIn formIn instructionIn storedAt loadedFrom
+blocks-checked = tt
