@@ -10,6 +10,7 @@ ghost use Rattle.memory.specs.Answers.{answerOf};
 ghost use Rattle.program.specs.Access.{gave};
 ghost use Rattle.program.specs.Program.{interpret};
 ghost use Rattle.program.specs.Journal.{journaled, logging};
+ghost use Rattle.machine.specs.Cache.{Cache};
 ghost use Rattle.machine.specs.Status.{cpu};
 ghost use Rattle.isa.specs.Decode.{textOf, cpuPrefix};
 ghost use mathlib.Core.List.{[], _∷_};
@@ -30,15 +31,9 @@ pub struct Fetched {
     pub text: Text,
 }
 
-// Two parcels as a word, the first one high. (q stands in the contract alone.)
-fn fetch_two(
-    m: &mut [u8],
-    journal: &mut [u64; 201],
-    q: &[[u32; 4]; 16],
-    r: &[u32; 17],
-    a: u32,
-) -> u64
-    ensures { λ x. ⌜ gave (joinedOut (cpu (now (r .entry)) (now (q .entry))) (answerOf x)) (journaled (now (m .exit)) (now (journal .exit))) ≡ interpret logging (fetchTwo (cpu (now (r .entry)) (now (q .entry))) a) (journaled (now (m .entry)) (now (journal .entry))) ⌝ }
+// Two parcels as a word, the first one high.
+fn fetch_two(m: &mut [u8], journal: &mut [u64; 201], r: &[u32; 17], a: u32) -> u64
+    ensures { λ x. ⌜ ((q : Cache) → gave (joinedOut (cpu (now (r .entry)) q) (answerOf x)) (journaled (now (m .exit)) (now (journal .exit))) ≡ interpret logging (fetchTwo (cpu (now (r .entry)) q) a) (journaled (now (m .entry)) (now (journal .entry)))) ⌝ }
 {
     let x = fetch_parcel(m, journal, r, a);
     if 0x1_0000_0000 <= x {
@@ -52,15 +47,8 @@ fn fetch_two(
 }
 
 // The parcels after p, which stand from a on.
-fn fetch_operands(
-    m: &mut [u8],
-    journal: &mut [u64; 201],
-    q: &[[u32; 4]; 16],
-    r: &[u32; 17],
-    a: u32,
-    p: u16,
-) -> Operands
-    ensures { λ x. ⌜ gave (operandsOut (cpu (now (r .entry)) (now (q .entry))) p x) (journaled (now (m .exit)) (now (journal .exit))) ≡ interpret logging (fetchParcels (cpu (now (r .entry)) (now (q .entry))) a (following p)) (journaled (now (m .entry)) (now (journal .entry))) ⌝ }
+fn fetch_operands(m: &mut [u8], journal: &mut [u64; 201], r: &[u32; 17], a: u32, p: u16) -> Operands
+    ensures { λ x. ⌜ ((q : Cache) → gave (operandsOut (cpu (now (r .entry)) q) p x) (journaled (now (m .exit)) (now (journal .exit))) ≡ interpret logging (fetchParcels (cpu (now (r .entry)) q) a (following p)) (journaled (now (m .entry)) (now (journal .entry)))) ⌝ }
 {
     if p < 0x8000 {
         return Operands {
@@ -69,7 +57,7 @@ fn fetch_operands(
             destination: 0,
         };
     }
-    let x = fetch_two(m, journal, q, r, a);
+    let x = fetch_two(m, journal, r, a);
     if 0x1_0000_0000 <= x {
         return Operands {
             fault: x,
@@ -85,7 +73,7 @@ fn fetch_operands(
             destination: 0,
         };
     }
-    let y = fetch_two(m, journal, q, r, plus(a, 4));
+    let y = fetch_two(m, journal, r, plus(a, 4));
     if 0x1_0000_0000 <= y {
         return Operands {
             fault: y,
@@ -201,29 +189,18 @@ fn prefixed(p: u16, o: Operands) -> Text
 }
 
 // The instruction whose first parcel p stands at PC.
-fn fetch_after(
-    m: &mut [u8],
-    journal: &mut [u64; 201],
-    q: &[[u32; 4]; 16],
-    r: &[u32; 17],
-    p: u16,
-) -> Fetched
-    ensures { λ x. ⌜ gave (textOut (cpu (now (r .entry)) (now (q .entry))) x) (journaled (now (m .exit)) (now (journal .exit))) ≡ interpret logging (fetchAfter (cpu (now (r .entry)) (now (q .entry))) p) (journaled (now (m .entry)) (now (journal .entry))) ⌝ }
+fn fetch_after(m: &mut [u8], journal: &mut [u64; 201], r: &[u32; 17], p: u16) -> Fetched
+    ensures { λ x. ⌜ ((q : Cache) → gave (textOut (cpu (now (r .entry)) q) x) (journaled (now (m .exit)) (now (journal .exit))) ≡ interpret logging (fetchAfter (cpu (now (r .entry)) q) p) (journaled (now (m .entry)) (now (journal .entry)))) ⌝ }
 {
-    let o = fetch_operands(m, journal, q, r, plus(r[5], 2), p);
+    let o = fetch_operands(m, journal, r, plus(r[5], 2), p);
     Fetched {
         fault: o.fault,
         text: bare(p, o),
     }
 }
 
-fn fetch_prefixed(
-    m: &mut [u8],
-    journal: &mut [u64; 201],
-    q: &[[u32; 4]; 16],
-    r: &[u32; 17],
-) -> Fetched
-    ensures { λ x. ⌜ gave (textOut (cpu (now (r .entry)) (now (q .entry))) x) (journaled (now (m .exit)) (now (journal .exit))) ≡ interpret logging (fetchPrefixed (cpu (now (r .entry)) (now (q .entry)))) (journaled (now (m .entry)) (now (journal .entry))) ⌝ }
+fn fetch_prefixed(m: &mut [u8], journal: &mut [u64; 201], r: &[u32; 17]) -> Fetched
+    ensures { λ x. ⌜ ((q : Cache) → gave (textOut (cpu (now (r .entry)) q) x) (journaled (now (m .exit)) (now (journal .exit))) ≡ interpret logging (fetchPrefixed (cpu (now (r .entry)) q)) (journaled (now (m .entry)) (now (journal .entry)))) ⌝ }
 {
     let x = fetch_parcel(m, journal, r, plus(r[5], 2));
     if 0x1_0000_0000 <= x {
@@ -233,7 +210,7 @@ fn fetch_prefixed(
         };
     }
     let p = parcel(x);
-    let o = fetch_operands(m, journal, q, r, plus(r[5], 4), p);
+    let o = fetch_operands(m, journal, r, plus(r[5], 4), p);
     Fetched {
         fault: o.fault,
         text: prefixed(p, o),
@@ -241,13 +218,8 @@ fn fetch_prefixed(
 }
 
 // All parcels that the instruction at PC calls for.
-pub fn fetch_text(
-    m: &mut [u8],
-    journal: &mut [u64; 201],
-    q: &[[u32; 4]; 16],
-    r: &[u32; 17],
-) -> Fetched
-    ensures { λ x. ⌜ gave (textOut (cpu (now (r .entry)) (now (q .entry))) x) (journaled (now (m .exit)) (now (journal .exit))) ≡ interpret logging (fetchText (cpu (now (r .entry)) (now (q .entry)))) (journaled (now (m .entry)) (now (journal .entry))) ⌝ }
+pub fn fetch_text(m: &mut [u8], journal: &mut [u64; 201], r: &[u32; 17]) -> Fetched
+    ensures { λ x. ⌜ ((q : Cache) → gave (textOut (cpu (now (r .entry)) q) x) (journaled (now (m .exit)) (now (journal .exit))) ≡ interpret logging (fetchText (cpu (now (r .entry)) q)) (journaled (now (m .entry)) (now (journal .entry)))) ⌝ }
 {
     let x = fetch_parcel(m, journal, r, r[5]);
     if 0x1_0000_0000 <= x {
@@ -258,8 +230,8 @@ pub fn fetch_text(
     }
     let p = parcel(x);
     if p == 0x2C00 {
-        fetch_prefixed(m, journal, q, r)
+        fetch_prefixed(m, journal, r)
     } else {
-        fetch_after(m, journal, q, r, p)
+        fetch_after(m, journal, r, p)
     }
 }

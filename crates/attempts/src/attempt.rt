@@ -154,7 +154,7 @@ pub fn attempt(
 ) -> u64
     ensures { λ x. ⌜ gave (triedOut (answerOf x) (now (r .exit)) (now (q .exit))) (journaled (now (m .exit)) (now (journal .exit))) ≡ interpret logging (attemptOf confined (cpu (now (r .entry)) (now (q .entry)))) (journaled (now (m .entry)) (now (journal .entry))) ⌝ }
 {
-    let f = fetch_text(m, journal, q, r);
+    let f = fetch_text(m, journal, r);
     if f.fault != 0 {
         return raised(low32(f.fault));
     }

@@ -13,6 +13,7 @@ ghost use Rattle.memory.specs.Answers.{answerOf};
 ghost use Rattle.program.specs.Access.{gave};
 ghost use Rattle.program.specs.Program.{interpret};
 ghost use Rattle.program.specs.Journal.{journaled, logging};
+ghost use Rattle.machine.specs.Cache.{Cache};
 ghost use Rattle.machine.specs.Status.{cpu};
 ghost use Rattle.access.specs.Code.{ended};
 ghost use Rattle.exec.specs.Frames.{kcall as kcallOf, kret as kretOf};
@@ -35,16 +36,16 @@ pub fn kcall(
     }
     let a = low32(x);
     let p = next_pc(r, n);
-    let y = push_frame(m, journal, q, r, a, p);
+    let y = push_frame(m, journal, r, a, p);
     if 0x1_0000_0000 <= y {
         return y;
     }
-    through_vector(m, journal, q, r, 0)
+    through_vector(m, journal, r, 0)
 }
 
 // At kernel level; at user level it is exception 5.
-pub fn kret(m: &mut [u8], journal: &mut [u64; 201], q: &[[u32; 4]; 16], r: &mut [u32; 17]) -> u64
-    ensures { λ x. ⌜ gave (ended (answerOf x) (now (r .exit)) (now (q .entry))) (journaled (now (m .exit)) (now (journal .exit))) ≡ interpret logging (kretOf (cpu (now (r .entry)) (now (q .entry)))) (journaled (now (m .entry)) (now (journal .entry))) ⌝ }
+pub fn kret(m: &mut [u8], journal: &mut [u64; 201], r: &mut [u32; 17]) -> u64
+    ensures { λ x. ⌜ ((q : Cache) → gave (ended (answerOf x) (now (r .exit)) q) (journaled (now (m .exit)) (now (journal .exit))) ≡ interpret logging (kretOf (cpu (now (r .entry)) q)) (journaled (now (m .entry)) (now (journal .entry)))) ⌝ }
 {
     let i = plus(r[3], 8);
     let x = read_frame(m, journal, r, i);

@@ -12,19 +12,14 @@ ghost use Rattle.memory.specs.Answers.{answerOf};
 ghost use Rattle.program.specs.Access.{gave};
 ghost use Rattle.program.specs.Program.{interpret};
 ghost use Rattle.program.specs.Journal.{journaled, logging};
+ghost use Rattle.machine.specs.Cache.{Cache};
 ghost use Rattle.machine.specs.Status.{cpu};
 ghost use Rattle.access.specs.Code.{ended};
 ghost use Rattle.exec.specs.Frames.{pushPair, pushFrame, throughVector};
 
 // a as PC, and PSW.
-pub fn push_pair(
-    m: &mut [u8],
-    journal: &mut [u64; 201],
-    q: &[[u32; 4]; 16],
-    r: &mut [u32; 17],
-    a: u32,
-) -> u64
-    ensures { λ x. ⌜ gave (ended (answerOf x) (now (r .exit)) (now (q .entry))) (journaled (now (m .exit)) (now (journal .exit))) ≡ interpret logging (pushPair (cpu (now (r .entry)) (now (q .entry))) a) (journaled (now (m .entry)) (now (journal .entry))) ⌝ }
+pub fn push_pair(m: &mut [u8], journal: &mut [u64; 201], r: &mut [u32; 17], a: u32) -> u64
+    ensures { λ x. ⌜ ((q : Cache) → gave (ended (answerOf x) (now (r .exit)) q) (journaled (now (m .exit)) (now (journal .exit))) ≡ interpret logging (pushPair (cpu (now (r .entry)) q) a) (journaled (now (m .entry)) (now (journal .entry)))) ⌝ }
 {
     let i = minus(r[3], 8);
     let x = write_frame(m, journal, r, i, a);
@@ -42,33 +37,20 @@ pub fn push_pair(
 }
 
 // The same with a third word.
-pub fn push_frame(
-    m: &mut [u8],
-    journal: &mut [u64; 201],
-    q: &[[u32; 4]; 16],
-    r: &mut [u32; 17],
-    v: u32,
-    a: u32,
-) -> u64
-    ensures { λ x. ⌜ gave (ended (answerOf x) (now (r .exit)) (now (q .entry))) (journaled (now (m .exit)) (now (journal .exit))) ≡ interpret logging (pushFrame (cpu (now (r .entry)) (now (q .entry))) v a) (journaled (now (m .entry)) (now (journal .entry))) ⌝ }
+pub fn push_frame(m: &mut [u8], journal: &mut [u64; 201], r: &mut [u32; 17], v: u32, a: u32) -> u64
+    ensures { λ x. ⌜ ((q : Cache) → gave (ended (answerOf x) (now (r .exit)) q) (journaled (now (m .exit)) (now (journal .exit))) ≡ interpret logging (pushFrame (cpu (now (r .entry)) q) v a) (journaled (now (m .entry)) (now (journal .entry)))) ⌝ }
 {
     let i = minus(r[3], 12);
     let x = write_frame(m, journal, r, i, v);
     if 0x1_0000_0000 <= x {
         return 0x1_0000_0000;
     }
-    push_pair(m, journal, q, r, a)
+    push_pair(m, journal, r, a)
 }
 
 // PC from the vector at an offset, and the PSW of a handler.
-pub fn through_vector(
-    m: &mut [u8],
-    journal: &mut [u64; 201],
-    q: &[[u32; 4]; 16],
-    r: &mut [u32; 17],
-    offset: u32,
-) -> u64
-    ensures { λ x. ⌜ gave (ended (answerOf x) (now (r .exit)) (now (q .entry))) (journaled (now (m .exit)) (now (journal .exit))) ≡ interpret logging (throughVector (cpu (now (r .entry)) (now (q .entry))) offset) (journaled (now (m .entry)) (now (journal .entry))) ⌝ }
+pub fn through_vector(m: &mut [u8], journal: &mut [u64; 201], r: &mut [u32; 17], offset: u32) -> u64
+    ensures { λ x. ⌜ ((q : Cache) → gave (ended (answerOf x) (now (r .exit)) q) (journaled (now (m .exit)) (now (journal .exit))) ≡ interpret logging (throughVector (cpu (now (r .entry)) q) offset) (journaled (now (m .entry)) (now (journal .entry)))) ⌝ }
 {
     let i = plus(r[12], offset);
     let x = read_frame(m, journal, r, i);

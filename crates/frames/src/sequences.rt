@@ -19,6 +19,7 @@ ghost use Rattle.program.specs.Access.{gave};
 ghost use Rattle.program.specs.Program.{interpret};
 ghost use Rattle.program.specs.Journal.{journaled, logging};
 ghost use Rattle.machine.specs.Registers.{word, pc, sp};
+ghost use Rattle.machine.specs.Cache.{Cache};
 ghost use Rattle.machine.specs.Status.{cpu, spCurrent};
 ghost use Rattle.access.specs.Data.{writeData};
 ghost use Rattle.access.specs.Code.{ended};
@@ -28,43 +29,36 @@ ghost use Rattle.exec.specs.Frames.{interruptSequence, exceptionSequence, store
 pub fn interrupt_sequence(
     m: &mut [u8],
     journal: &mut [u64; 201],
-    q: &[[u32; 4]; 16],
     r: &mut [u32; 17],
     vector: u32,
 ) -> u64
-    ensures { λ x. ⌜ gave (ended (answerOf x) (now (r .exit)) (now (q .entry))) (journaled (now (m .exit)) (now (journal .exit))) ≡ interpret logging (interruptSequence (cpu (now (r .entry)) (now (q .entry))) vector) (journaled (now (m .entry)) (now (journal .entry))) ⌝ }
+    ensures { λ x. ⌜ ((q : Cache) → gave (ended (answerOf x) (now (r .exit)) q) (journaled (now (m .exit)) (now (journal .exit))) ≡ interpret logging (interruptSequence (cpu (now (r .entry)) q) vector) (journaled (now (m .entry)) (now (journal .entry)))) ⌝ }
 {
     let p = r[5];
     restored_csp(r);
-    let x = push_pair(m, journal, q, r, p);
+    let x = push_pair(m, journal, r, p);
     if 0x1_0000_0000 <= x {
         return x;
     }
-    through_vector(m, journal, q, r, vector)
+    through_vector(m, journal, r, vector)
 }
 
 // Exception e.
-pub fn exception_sequence(
-    m: &mut [u8],
-    journal: &mut [u64; 201],
-    q: &[[u32; 4]; 16],
-    r: &mut [u32; 17],
-    e: u32,
-) -> u64
-    ensures { λ x. ⌜ gave (ended (answerOf x) (now (r .exit)) (now (q .entry))) (journaled (now (m .exit)) (now (journal .exit))) ≡ interpret logging (exceptionSequence (cpu (now (r .entry)) (now (q .entry))) e) (journaled (now (m .entry)) (now (journal .entry))) ⌝ }
+pub fn exception_sequence(m: &mut [u8], journal: &mut [u64; 201], r: &mut [u32; 17], e: u32) -> u64
+    ensures { λ x. ⌜ ((q : Cache) → gave (ended (answerOf x) (now (r .exit)) q) (journaled (now (m .exit)) (now (journal .exit))) ≡ interpret logging (exceptionSequence (cpu (now (r .entry)) q) e) (journaled (now (m .entry)) (now (journal .entry)))) ⌝ }
 {
     let p = r[5];
     restored_csp(r);
-    let x = push_frame(m, journal, q, r, e, p);
+    let x = push_frame(m, journal, r, e, p);
     if 0x1_0000_0000 <= x {
         return x;
     }
-    through_vector(m, journal, q, r, 4)
+    through_vector(m, journal, r, 4)
 }
 
 // PC at the interrupt stack pointer.
-fn store_pc(m: &mut [u8], journal: &mut [u64; 201], q: &[[u32; 4]; 16], r: &[u32; 17]) -> u64
-    ensures { λ x. ⌜ gave (ended (answerOf x) (now (r .entry)) (now (q .entry))) (journaled (now (m .exit)) (now (journal .exit))) ≡ interpret logging (storePc (cpu (now (r .entry)) (now (q .entry)))) (journaled (now (m .entry)) (now (journal .entry))) ⌝ }
+fn store_pc(m: &mut [u8], journal: &mut [u64; 201], r: &[u32; 17]) -> u64
+    ensures { λ x. ⌜ ((q : Cache) → gave (ended (answerOf x) (now (r .entry)) q) (journaled (now (m .exit)) (now (journal .exit))) ≡ interpret logging (storePc (cpu (now (r .entry)) q)) (journaled (now (m .entry)) (now (journal .entry)))) ⌝ }
 {
     let i = r[3];
     let p = r[5];
@@ -84,7 +78,7 @@ fn save_pc(m: &mut [u8], journal: &mut [u64; 201], q: &mut [[u32; 4]; 16], r: &m
         let p = r[5];
         store(m, journal, q, r, Width::Word, s, p)
     } else {
-        store_pc(m, journal, q, r)
+        store_pc(m, journal, r)
     }
 }
 

@@ -10,24 +10,20 @@ ghost use Rattle.memory.specs.Answers.{answerOf};
 ghost use Rattle.program.specs.Access.{gave};
 ghost use Rattle.program.specs.Program.{interpret};
 ghost use Rattle.program.specs.Journal.{journaled, logging};
+ghost use Rattle.machine.specs.Cache.{Cache};
 ghost use Rattle.machine.specs.Status.{cpu};
 ghost use Rattle.access.specs.Code.{ended};
 ghost use Rattle.exec.specs.Frames.{kret, cret, privileged};
 ghost use Rattle.exec.specs.Execute.{executeNiladic};
 
 // At user level it is exception 5.
-fn kret_privileged(
-    m: &mut [u8],
-    journal: &mut [u64; 201],
-    q: &[[u32; 4]; 16],
-    r: &mut [u32; 17],
-) -> u64
-    ensures { λ x. ⌜ gave (ended (answerOf x) (now (r .exit)) (now (q .entry))) (journaled (now (m .exit)) (now (journal .exit))) ≡ interpret logging (privileged (cpu (now (r .entry)) (now (q .entry))) (kret (cpu (now (r .entry)) (now (q .entry))))) (journaled (now (m .entry)) (now (journal .entry))) ⌝ }
+fn kret_privileged(m: &mut [u8], journal: &mut [u64; 201], r: &mut [u32; 17]) -> u64
+    ensures { λ x. ⌜ ((q : Cache) → gave (ended (answerOf x) (now (r .exit)) q) (journaled (now (m .exit)) (now (journal .exit))) ≡ interpret logging (privileged (cpu (now (r .entry)) q) (kret (cpu (now (r .entry)) q))) (journaled (now (m .entry)) (now (journal .entry)))) ⌝ }
 {
     if is_user(r) {
         raised(5)
     } else {
-        frames::kernel::kret(m, journal, q, r)
+        frames::kernel::kret(m, journal, r)
     }
 }
 
@@ -56,7 +52,7 @@ pub fn execute_niladic(
     ensures { λ x. ⌜ gave (ended (answerOf x) (now (r .exit)) (now (q .exit))) (journaled (now (m .exit)) (now (journal .exit))) ≡ interpret logging (executeNiladic (cpu (now (r .entry)) (now (q .entry))) o) (journaled (now (m .entry)) (now (journal .entry))) ⌝ }
 {
     match o {
-        Niladic::Kret => kret_privileged(m, journal, q, r),
+        Niladic::Kret => kret_privileged(m, journal, r),
         Niladic::Cret => cret_privileged(m, journal, q, r),
         Niladic::Nop => {
             advanced(r, 1);

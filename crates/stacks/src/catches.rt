@@ -40,7 +40,7 @@ pub fn catch_to(
         return x;
     }
     let new = r[4];
-    let y = check_msp(m, journal, q, r, stb, user, translated, old, new);
+    let y = check_msp(m, r, stb, user, translated, old, new);
     if 0x1_0000_0000 <= y {
         return y;
     }

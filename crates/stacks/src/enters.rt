@@ -19,23 +19,18 @@ ghost use mathlib.Core.Path.{_≡_};
 ghost use Rattle.memory.specs.Answers.{answerOf};
 ghost use Rattle.program.specs.Access.{gave};
 ghost use Rattle.program.specs.Program.{interpret};
-ghost use Rattle.program.specs.Journal.{journaled, logging};
+ghost use Rattle.program.specs.Journal.{Journal, journaled, logging};
+ghost use Rattle.machine.specs.Cache.{Cache};
 ghost use Rattle.machine.specs.Status.{cpu};
 ghost use Rattle.access.specs.Code.{ended};
 ghost use Rattle.exec.specs.Stack.{enterPlain, enterUncached, enterEmpty, enterOffset, enterAt, clipped as clippedOf, enter as enterOf};
 ghost use Rattle.stacks.specs.Code.{enterClipped};
 
 // The interrupt stack is current: nothing is moved.
-fn enter_plain(
-    m: &[u8],
-    journal: &[u64; 201],
-    q: &[[u32; 4]; 16],
-    r: &mut [u32; 17],
-    target: u32,
-) -> u64
-    ensures { λ x. ⌜ gave (ended (answerOf x) (now (r .exit)) (now (q .entry))) (journaled (now (m .entry)) (now (journal .entry))) ≡ interpret logging (enterPlain (cpu (now (r .entry)) (now (q .entry))) target) (journaled (now (m .entry)) (now (journal .entry))) ⌝ }
+fn enter_plain(m: &[u8], r: &mut [u32; 17], target: u32) -> u64
+    ensures { λ x. ⌜ ((q : Cache) (j : Journal) → gave (ended (answerOf x) (now (r .exit)) q) (journaled (now (m .entry)) j) ≡ interpret logging (enterPlain (cpu (now (r .entry)) q) target) (journaled (now (m .entry)) j)) ⌝ }
 {
-    let x = check_target(m, journal, q, r, target);
+    let x = check_target(m, r, target);
     if 0x1_0000_0000 <= x {
         return x;
     }
@@ -44,16 +39,10 @@ fn enter_plain(
 }
 
 // The cache is off, or empty.
-fn enter_uncached(
-    m: &[u8],
-    journal: &[u64; 201],
-    q: &[[u32; 4]; 16],
-    r: &mut [u32; 17],
-    target: u32,
-) -> u64
-    ensures { λ x. ⌜ gave (ended (answerOf x) (now (r .exit)) (now (q .entry))) (journaled (now (m .entry)) (now (journal .entry))) ≡ interpret logging (enterUncached (cpu (now (r .entry)) (now (q .entry))) target) (journaled (now (m .entry)) (now (journal .entry))) ⌝ }
+fn enter_uncached(m: &[u8], r: &mut [u32; 17], target: u32) -> u64
+    ensures { λ x. ⌜ ((q : Cache) (j : Journal) → gave (ended (answerOf x) (now (r .exit)) q) (journaled (now (m .entry)) j) ≡ interpret logging (enterUncached (cpu (now (r .entry)) q) target) (journaled (now (m .entry)) j)) ⌝ }
 {
-    let x = check_target(m, journal, q, r, target);
+    let x = check_target(m, r, target);
     if 0x1_0000_0000 <= x {
         return x;
     }
@@ -76,7 +65,7 @@ fn enter_empty(
     if 0x1_0000_0000 <= x {
         return x;
     }
-    enter_uncached(m, journal, q, r, target)
+    enter_uncached(m, r, target)
 }
 
 // MSP after ENTER by a stack offset: at most the cache's size above the target.
@@ -92,25 +81,18 @@ fn clipped(old: u32, msp: u32, target: u32) -> u32
 }
 
 // Both pointers are checked, then set; old is MSP before the flush.
-fn enter_clipped(
-    m: &[u8],
-    journal: &[u64; 201],
-    q: &[[u32; 4]; 16],
-    r: &mut [u32; 17],
-    target: u32,
-    old: u32,
-) -> u64
-    ensures { λ x. ⌜ gave (ended (answerOf x) (now (r .exit)) (now (q .entry))) (journaled (now (m .entry)) (now (journal .entry))) ≡ interpret logging (enterClipped (cpu (now (r .entry)) (now (q .entry))) target old) (journaled (now (m .entry)) (now (journal .entry))) ⌝ }
+fn enter_clipped(m: &[u8], r: &mut [u32; 17], target: u32, old: u32) -> u64
+    ensures { λ x. ⌜ ((q : Cache) (j : Journal) → gave (ended (answerOf x) (now (r .exit)) q) (journaled (now (m .entry)) j) ≡ interpret logging (enterClipped (cpu (now (r .entry)) q) target old) (journaled (now (m .entry)) j)) ⌝ }
 {
     let new = clipped(old, r[4], target);
-    let x = check_target(m, journal, q, r, target);
+    let x = check_target(m, r, target);
     if 0x1_0000_0000 <= x {
         return x;
     }
     let stb = r[9];
     let user = is_user(r);
     let translated = is_virtual(r);
-    let y = check_msp(m, journal, q, r, stb, user, translated, old, new);
+    let y = check_msp(m, r, stb, user, translated, old, new);
     if 0x1_0000_0000 <= y {
         return y;
     }
@@ -134,7 +116,7 @@ fn enter_offset(
     if 0x1_0000_0000 <= x {
         return x;
     }
-    enter_clipped(m, journal, q, r, target, old)
+    enter_clipped(m, r, target, old)
 }
 
 fn enter_at(
@@ -155,10 +137,10 @@ fn enter_at(
                 enter_empty(m, journal, q, r, target)
             }
         } else {
-            enter_uncached(m, journal, q, r, target)
+            enter_uncached(m, r, target)
         }
     } else {
-        enter_plain(m, journal, q, r, target)
+        enter_plain(m, r, target)
     }
 }
 

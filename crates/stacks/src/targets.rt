@@ -12,8 +12,9 @@ ghost use Prim.Native.Nat.{_^_, _<_};
 ghost use Rattle.memory.specs.Answers.{answerOf};
 ghost use Rattle.program.specs.Access.{gave, probe as probes};
 ghost use Rattle.program.specs.Program.{interpret};
-ghost use Rattle.program.specs.Journal.{journaled, logging};
+ghost use Rattle.program.specs.Journal.{Journal, journaled, logging};
 ghost use Rattle.handler.specs.Followed.{regimeFor};
+ghost use Rattle.machine.specs.Cache.{Cache};
 ghost use Rattle.machine.specs.Status.{cpu};
 ghost use Rattle.access.specs.Parts.{request};
 ghost use Rattle.access.specs.Data.{checkStore};
@@ -44,17 +45,8 @@ pub fn stack_target(
 }
 
 // Whether stores at a are valid, in a regime given by its numbers.
-fn check(
-    m: &[u8],
-    journal: &[u64; 201],
-    q: &[[u32; 4]; 16],
-    r: &mut [u32; 17],
-    stb: u32,
-    user: bool,
-    translated: bool,
-    a: u32,
-) -> u64
-    ensures { λ x. ⌜ (gave (valued (answerOf x) (now (r .exit)) (now (q .entry))) (journaled (now (m .entry)) (now (journal .entry))) ≡ interpret logging (request (cpu (now (r .entry)) (now (q .entry))) (probes (regimeFor stb user translated) a) a) (journaled (now (m .entry)) (now (journal .entry)))) × (x < 2 ^ 32 → now (r .exit) ≡ now (r .entry)) ⌝ }
+fn check(m: &[u8], r: &mut [u32; 17], stb: u32, user: bool, translated: bool, a: u32) -> u64
+    ensures { λ x. ⌜ ((q : Cache) (j : Journal) → (gave (valued (answerOf x) (now (r .exit)) q) (journaled (now (m .entry)) j) ≡ interpret logging (request (cpu (now (r .entry)) q) (probes (regimeFor stb user translated) a) a) (journaled (now (m .entry)) j)) × (x < 2 ^ 32 → now (r .exit) ≡ now (r .entry))) ⌝ }
 {
     let x = handler::accesses::probe(m, stb, user, translated, a);
     if 0x1_0000_0000 <= x {
@@ -65,26 +57,18 @@ fn check(
 }
 
 // The same at the current level.
-pub fn check_target(
-    m: &[u8],
-    journal: &[u64; 201],
-    q: &[[u32; 4]; 16],
-    r: &mut [u32; 17],
-    a: u32,
-) -> u64
-    ensures { λ x. ⌜ (gave (valued (answerOf x) (now (r .exit)) (now (q .entry))) (journaled (now (m .entry)) (now (journal .entry))) ≡ interpret logging (checkStore (cpu (now (r .entry)) (now (q .entry))) a) (journaled (now (m .entry)) (now (journal .entry)))) × (x < 2 ^ 32 → now (r .exit) ≡ now (r .entry)) ⌝ }
+pub fn check_target(m: &[u8], r: &mut [u32; 17], a: u32) -> u64
+    ensures { λ x. ⌜ ((q : Cache) (j : Journal) → (gave (valued (answerOf x) (now (r .exit)) q) (journaled (now (m .entry)) j) ≡ interpret logging (checkStore (cpu (now (r .entry)) q) a) (journaled (now (m .entry)) j)) × (x < 2 ^ 32 → now (r .exit) ≡ now (r .entry))) ⌝ }
 {
     let stb = r[9];
     let user = is_user(r);
     let translated = is_virtual(r);
-    check(m, journal, q, r, stb, user, translated, a)
+    check(m, r, stb, user, translated, a)
 }
 
 // MSP is checked if it is updated.
 pub fn check_msp(
     m: &[u8],
-    journal: &[u64; 201],
-    q: &[[u32; 4]; 16],
     r: &mut [u32; 17],
     stb: u32,
     user: bool,
@@ -92,11 +76,11 @@ pub fn check_msp(
     old: u32,
     new: u32,
 ) -> u64
-    ensures { λ x. ⌜ (gave (valued (answerOf x) (now (r .exit)) (now (q .entry))) (journaled (now (m .entry)) (now (journal .entry))) ≡ interpret logging (checkMsp (cpu (now (r .entry)) (now (q .entry))) (regimeFor stb user translated) old new) (journaled (now (m .entry)) (now (journal .entry)))) × (x < 2 ^ 32 → now (r .exit) ≡ now (r .entry)) ⌝ }
+    ensures { λ x. ⌜ ((q : Cache) (j : Journal) → (gave (valued (answerOf x) (now (r .exit)) q) (journaled (now (m .entry)) j) ≡ interpret logging (checkMsp (cpu (now (r .entry)) q) (regimeFor stb user translated) old new) (journaled (now (m .entry)) j)) × (x < 2 ^ 32 → now (r .exit) ≡ now (r .entry))) ⌝ }
 {
     if new == old {
         good(0)
     } else {
-        check(m, journal, q, r, stb, user, translated, new)
+        check(m, r, stb, user, translated, new)
     }
 }

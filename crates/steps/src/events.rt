@@ -27,40 +27,28 @@ fn settle(r: &mut [u32; 17], x: u64)
 }
 
 // Exception e; 0 is the reset that a fault on the interrupt stack asks for.
-pub fn exception_step(
-    m: &mut [u8],
-    journal: &mut [u64; 201],
-    q: &[[u32; 4]; 16],
-    r: &mut [u32; 17],
-    e: u32,
-)
-    ensures { λ z. ⌜ gave (stepped (cpu (now (r .exit)) (now (q .entry))) false) (journaled (now (m .exit)) (now (journal .exit))) ≡ interpret logging (exceptionStep (cpu (now (r .entry)) (now (q .entry))) e) (journaled (now (m .entry)) (now (journal .entry))) ⌝ }
+pub fn exception_step(m: &mut [u8], journal: &mut [u64; 201], r: &mut [u32; 17], e: u32)
+    ensures { λ z. ⌜ ((q : Cache) → gave (stepped (cpu (now (r .exit)) q) false) (journaled (now (m .exit)) (now (journal .exit))) ≡ interpret logging (exceptionStep (cpu (now (r .entry)) q) e) (journaled (now (m .entry)) (now (journal .entry)))) ⌝ }
 {
     if e == 0 {
         reset(r);
         return;
     }
-    let x = exception_sequence(m, journal, q, r, e);
+    let x = exception_sequence(m, journal, r, e);
     settle(r, x);
 }
 
 // What is due, by document 01's number; only its low five bits are used.
-pub fn event_step(
-    m: &mut [u8],
-    journal: &mut [u64; 201],
-    q: &[[u32; 4]; 16],
-    r: &mut [u32; 17],
-    code: u32,
-)
-    ensures { λ z. ⌜ gave (stepped (cpu (now (r .exit)) (now (q .entry))) false) (journaled (now (m .exit)) (now (journal .exit))) ≡ interpret logging (eventStep (cpu (now (r .entry)) (now (q .entry))) (dueFrom (code % 32))) (journaled (now (m .entry)) (now (journal .entry))) ⌝ }
+pub fn event_step(m: &mut [u8], journal: &mut [u64; 201], r: &mut [u32; 17], code: u32)
+    ensures { λ z. ⌜ ((q : Cache) → gave (stepped (cpu (now (r .exit)) q) false) (journaled (now (m .exit)) (now (journal .exit))) ≡ interpret logging (eventStep (cpu (now (r .entry)) q) (dueFrom (code % 32))) (journaled (now (m .entry)) (now (journal .entry)))) ⌝ }
 {
     let k = code % 32;
     taken(r, k);
     if k == 2 {
-        let x = exception_sequence(m, journal, q, r, 2);
+        let x = exception_sequence(m, journal, r, 2);
         settle(r, x);
         return;
     }
-    let y = interrupt_sequence(m, journal, q, r, vector_of(code));
+    let y = interrupt_sequence(m, journal, r, vector_of(code));
     settle(r, y);
 }

@@ -13,23 +13,17 @@ ghost use Rattle.memory.specs.Answers.{answerOf};
 ghost use Rattle.program.specs.Access.{gave};
 ghost use Rattle.program.specs.Program.{interpret};
 ghost use Rattle.program.specs.Journal.{journaled, logging};
+ghost use Rattle.machine.specs.Cache.{Cache};
 ghost use Rattle.machine.specs.Status.{cpu};
 ghost use Rattle.attempts.specs.Code.{actedOut};
 ghost use Rattle.step.specs.Step.{stepped, finish as finishOf, instructionStep, step as stepOf};
 
 // After an attempt that began with the PSW p: a trace falls due, or the exception is taken.
-fn finish(
-    m: &mut [u8],
-    journal: &mut [u64; 201],
-    q: &[[u32; 4]; 16],
-    r: &mut [u32; 17],
-    p: u32,
-    x: u64,
-) -> bool
-    ensures { λ z. ⌜ gave (stepped (cpu (now (r .exit)) (now (q .entry))) z) (journaled (now (m .exit)) (now (journal .exit))) ≡ interpret logging (finishOf p (actedOut (answerOf x) (now (r .entry)) (now (q .entry)))) (journaled (now (m .entry)) (now (journal .entry))) ⌝ }
+fn finish(m: &mut [u8], journal: &mut [u64; 201], r: &mut [u32; 17], p: u32, x: u64) -> bool
+    ensures { λ z. ⌜ ((q : Cache) → gave (stepped (cpu (now (r .exit)) q) z) (journaled (now (m .exit)) (now (journal .exit))) ≡ interpret logging (finishOf p (actedOut (answerOf x) (now (r .entry)) q)) (journaled (now (m .entry)) (now (journal .entry)))) ⌝ }
 {
     if 0x1_0000_0000 <= x {
-        exception_step(m, journal, q, r, low32(x));
+        exception_step(m, journal, r, low32(x));
         return false;
     }
     if x < 3 {
@@ -51,7 +45,7 @@ fn instruction_step(
 {
     let p = r[6];
     let x = attempt(m, journal, q, r, false);
-    finish(m, journal, q, r, p, x)
+    finish(m, journal, r, p, x)
 }
 
 // One step with the interrupt input at a level.
@@ -69,7 +63,7 @@ pub fn step(
     if due == 0 {
         instruction_step(m, journal, q, r)
     } else {
-        event_step(m, journal, q, r, due);
+        event_step(m, journal, r, due);
         false
     }
 }

@@ -21,7 +21,7 @@ same-length : tie.Need-same-length
 same-length c = search needs
 
 returns : tie.Need-returns
-returns c = after-text (cpu (c .before .before .before .before .before .before .before .before .before .args .r .now) (c .before .before .before .before .before .before .before .before .before .args .q .now)) (journaled (c .before .before .before .before .before .before .before .before .before .args .m .now) (c .before .before .before .before .before .before .before .before .before .args .journal .now)) (c .before .before .before .before .before .before .before .before .before .args .p) _ (c .before .before .before .fetch-operands .result) _ _ (c .before .before .before .before .plus .ensures) (c .before .before .before .fetch-operands .ensures) (c .bare .ensures)
+returns c = λ q. after-text (cpu (c .before .before .before .before .before .before .before .before .before .args .r .now) q) (journaled (c .before .before .before .before .before .before .before .before .before .args .m .now) (c .before .before .before .before .before .before .before .before .before .args .journal .now)) (c .before .before .before .before .before .before .before .before .before .args .p) _ (c .before .before .before .fetch-operands .result) _ _ (c .before .before .before .before .plus .ensures) (c .before .before .before .fetch-operands .ensures q) (c .bare .ensures)
 
 pub fetch-after-spec : {M : Type 1} → statement M
 fetch-after-spec =

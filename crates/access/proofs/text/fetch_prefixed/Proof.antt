@@ -21,7 +21,7 @@ same-length : tie.Need-same-length
 same-length c = search needs
 
 returns : tie.Need-returns
-returns c = prefixed-bad (cpu (c .before .before .before .before .before .before .before .before .before .before .args .r .now) (c .before .before .before .before .before .before .before .before .before .before .args .q .now)) (journaled (c .before .before .before .before .before .before .before .before .before .before .args .m .now) (c .before .before .before .before .before .before .before .before .before .before .args .journal .now)) _ _ _ _ (c .before .before .before .before .before .plus .ensures) (c .before .before .before .before .fetch-parcel .ensures) (c .before .if1 .taken)
+returns c = λ q. prefixed-bad (cpu (c .before .before .before .before .before .before .before .before .before .before .args .r .now) q) (journaled (c .before .before .before .before .before .before .before .before .before .before .args .m .now) (c .before .before .before .before .before .before .before .before .before .before .args .journal .now)) _ _ _ _ (c .before .before .before .before .before .plus .ensures) (c .before .before .before .before .fetch-parcel .ensures) (c .before .if1 .taken)
 
 parcel-requires : tie.Need-parcel-requires
 parcel-requires c κs = search needs
@@ -42,7 +42,7 @@ same-length-2 : tie.Need-same-length-2
 same-length-2 c = search needs
 
 returns-2 : tie.Need-returns-2
-returns-2 c = prefixed-text (cpu (c .before .before .before .before .before .before .before .before .before .before .before .before .before .before .before .before .before .before .args .r .now) (c .before .before .before .before .before .before .before .before .before .before .before .before .before .before .before .before .before .before .args .q .now)) (journaled (c .before .before .before .before .before .before .before .before .before .before .before .before .before .before .before .before .before .before .args .m .now) (c .before .before .before .before .before .before .before .before .before .before .before .before .before .before .before .before .before .before .args .journal .now)) _ _ _ _ _ _ (c .before .before .before .fetch-operands .result) _ (c .before .before .before .before .before .before .before .before .before .before .before .before .before .plus .ensures) (c .before .before .before .before .before .before .before .before .before .before .before .before .fetch-parcel .ensures) (c .before .before .before .before .before .before .before .before .before .if1 .left) (c .before .before .before .before .before .before .before .before .parcel .ensures) (c .before .before .before .before .plus2 .ensures) (c .before .before .before .fetch-operands .ensures) (c .prefixed .ensures)
+returns-2 c = λ q. prefixed-text (cpu (c .before .before .before .before .before .before .before .before .before .before .before .before .before .before .before .before .before .before .args .r .now) q) (journaled (c .before .before .before .before .before .before .before .before .before .before .before .before .before .before .before .before .before .before .args .m .now) (c .before .before .before .before .before .before .before .before .before .before .before .before .before .before .before .before .before .before .args .journal .now)) _ _ _ _ _ _ (c .before .before .before .fetch-operands .result) _ (c .before .before .before .before .before .before .before .before .before .before .before .before .before .plus .ensures) (c .before .before .before .before .before .before .before .before .before .before .before .before .fetch-parcel .ensures) (c .before .before .before .before .before .before .before .before .before .if1 .left) (c .before .before .before .before .before .before .before .before .parcel .ensures) (c .before .before .before .before .plus2 .ensures) (c .before .before .before .fetch-operands .ensures q) (c .prefixed .ensures)
 
 pub fetch-prefixed-spec : {M : Type 1} → statement M
 fetch-prefixed-spec =

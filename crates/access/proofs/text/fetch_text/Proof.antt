@@ -18,7 +18,7 @@ same-length : tie.Need-same-length
 same-length c = search needs
 
 returns : tie.Need-returns
-returns c = text-bad (cpu (c .before .before .before .before .before .before .before .before .before .args .r .now) (c .before .before .before .before .before .before .before .before .before .args .q .now)) (journaled (c .before .before .before .before .before .before .before .before .before .args .m .now) (c .before .before .before .before .before .before .before .before .before .args .journal .now)) _ _ (c .before .before .before .before .fetch-parcel .ensures) _ (c .before .if1 .taken)
+returns c = λ q. text-bad (cpu (c .before .before .before .before .before .before .before .before .before .args .r .now) q) (journaled (c .before .before .before .before .before .before .before .before .before .args .m .now) (c .before .before .before .before .before .before .before .before .before .args .journal .now)) _ _ (c .before .before .before .before .fetch-parcel .ensures) _ (c .before .if1 .taken)
 
 parcel-requires : tie.Need-parcel-requires
 parcel-requires c κs = search needs
@@ -33,13 +33,13 @@ same-length-2 : tie.Need-same-length-2
 same-length-2 c = search needs
 
 returns-2 : tie.Need-returns-2
-returns-2 c = text-prefixed (cpu (c .before .before .before .before .before .before .before .before .before .before .before .before .before .before .before .args .r .now) (c .before .before .before .before .before .before .before .before .before .before .before .before .before .before .before .args .q .now)) (journaled (c .before .before .before .before .before .before .before .before .before .before .before .before .before .before .before .args .m .now) (c .before .before .before .before .before .before .before .before .before .before .before .before .before .before .before .args .journal .now)) _ _ (c .before .before .before .before .before .before .before .before .before .before .fetch-parcel .ensures) _ _ (c .before .before .before .before .before .before .before .if1 .left) (c .before .before .before .before .before .before .parcel .ensures) (c .before .before .before .before .before .if2 .taken) (c .before .before .fetch-prefixed .ensures)
+returns-2 c = λ q. text-prefixed (cpu (c .before .before .before .before .before .before .before .before .before .before .before .before .before .before .before .args .r .now) q) (journaled (c .before .before .before .before .before .before .before .before .before .before .before .before .before .before .before .args .m .now) (c .before .before .before .before .before .before .before .before .before .before .before .before .before .before .before .args .journal .now)) _ _ (c .before .before .before .before .before .before .before .before .before .before .fetch-parcel .ensures) _ _ (c .before .before .before .before .before .before .before .if1 .left) (c .before .before .before .before .before .before .parcel .ensures) (c .before .before .before .before .before .if2 .taken) (c .before .before .fetch-prefixed .ensures q)
 
 same-length-3 : tie.Need-same-length-3
 same-length-3 c = search needs
 
 returns-3 : tie.Need-returns-3
-returns-3 c = text-after (cpu (c .before .before .before .before .before .before .before .before .before .before .before .before .before .before .before .args .r .now) (c .before .before .before .before .before .before .before .before .before .before .before .before .before .before .before .args .q .now)) (journaled (c .before .before .before .before .before .before .before .before .before .before .before .before .before .before .before .args .m .now) (c .before .before .before .before .before .before .before .before .before .before .before .before .before .before .before .args .journal .now)) _ _ (c .before .before .before .before .before .before .before .before .before .before .fetch-parcel .ensures) _ _ (c .before .before .before .before .before .before .before .if1 .left) (c .before .before .before .before .before .before .parcel .ensures) (c .before .before .before .before .before .if2 .left) (c .before .before .fetch-after .ensures)
+returns-3 c = λ q. text-after (cpu (c .before .before .before .before .before .before .before .before .before .before .before .before .before .before .before .args .r .now) q) (journaled (c .before .before .before .before .before .before .before .before .before .before .before .before .before .before .before .args .m .now) (c .before .before .before .before .before .before .before .before .before .before .before .before .before .before .before .args .journal .now)) _ _ (c .before .before .before .before .before .before .before .before .before .before .fetch-parcel .ensures) _ _ (c .before .before .before .before .before .before .before .if1 .left) (c .before .before .before .before .before .before .parcel .ensures) (c .before .before .before .before .before .if2 .left) (c .before .before .fetch-after .ensures q)
 
 pub fetch-text-spec : {M : Type 1} → statement M
 fetch-text-spec =

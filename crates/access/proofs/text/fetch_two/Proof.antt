@@ -12,7 +12,7 @@ same-length : tie.Need-same-length
 same-length c = search needs
 
 returns : tie.Need-returns
-returns c = two-first (cpu (c .before .before .before .before .before .before .before .args .r .now) (c .before .before .before .before .before .before .before .args .q .now)) (c .before .before .before .before .before .before .before .args .a) _ (journaled (c .before .before .before .before .before .before .before .args .m .now) (c .before .before .before .before .before .before .before .args .journal .now)) _ (c .before .before .before .fetch-parcel .ensures) (c .if1 .taken)
+returns c = λ q. two-first (cpu (c .before .before .before .before .before .before .before .args .r .now) q) (c .before .before .before .before .before .before .before .args .a) _ (journaled (c .before .before .before .before .before .before .before .args .m .now) (c .before .before .before .before .before .before .before .args .journal .now)) _ (c .before .before .before .fetch-parcel .ensures) (c .if1 .taken)
 
 plus-requires : tie.Need-plus-requires
 plus-requires c κs = search needs
@@ -24,7 +24,7 @@ same-length-2 : tie.Need-same-length-2
 same-length-2 c = search needs
 
 returns-2 : tie.Need-returns-2
-returns-2 c = two-second (cpu (c .before .before .before .before .before .before .before .before .before .before .before .before .before .before .args .r .now) (c .before .before .before .before .before .before .before .before .before .before .before .before .before .before .args .q .now)) (c .before .before .before .before .before .before .before .before .before .before .before .before .before .before .args .a) _ (journaled (c .before .before .before .before .before .before .before .before .before .before .before .before .before .before .args .m .now) (c .before .before .before .before .before .before .before .before .before .before .before .before .before .before .args .journal .now)) _ (c .before .before .before .before .before .before .before .before .before .before .fetch-parcel .ensures) (c .before .before .before .before .before .before .before .if1 .left) _ _ _ (c .before .before .before .before .plus .ensures) (c .before .before .before .fetch-parcel2 .ensures) (c .if2 .taken)
+returns-2 c = λ q. two-second (cpu (c .before .before .before .before .before .before .before .before .before .before .before .before .before .before .args .r .now) q) (c .before .before .before .before .before .before .before .before .before .before .before .before .before .before .args .a) _ (journaled (c .before .before .before .before .before .before .before .before .before .before .before .before .before .before .args .m .now) (c .before .before .before .before .before .before .before .before .before .before .before .before .before .before .args .journal .now)) _ (c .before .before .before .before .before .before .before .before .before .before .fetch-parcel .ensures) (c .before .before .before .before .before .before .before .if1 .left) _ _ _ (c .before .before .before .before .plus .ensures) (c .before .before .before .fetch-parcel2 .ensures) (c .if2 .taken)
 
 mul-result : tie.Need-mul-result
 mul-result c = search needs
@@ -36,7 +36,7 @@ same-length-3 : tie.Need-same-length-3
 same-length-3 c = search needs
 
 returns-3 : tie.Need-returns-3
-returns-3 c = two-both (cpu (c .before .before .before .before .before .before .before .before .before .before .before .before .before .before .args .r .now) (c .before .before .before .before .before .before .before .before .before .before .before .before .before .before .args .q .now)) (c .before .before .before .before .before .before .before .before .before .before .before .before .before .before .args .a) _ (journaled (c .before .before .before .before .before .before .before .before .before .before .before .before .before .before .args .m .now) (c .before .before .before .before .before .before .before .before .before .before .before .before .before .before .args .journal .now)) _ (c .before .before .before .before .before .before .before .before .before .before .fetch-parcel .ensures) (c .before .before .before .before .before .before .before .if1 .left) _ _ _ (c .before .before .before .before .plus .ensures) (c .before .before .before .fetch-parcel2 .ensures) (c .if2 .left)
+returns-3 c = λ q. two-both (cpu (c .before .before .before .before .before .before .before .before .before .before .before .before .before .before .args .r .now) q) (c .before .before .before .before .before .before .before .before .before .before .before .before .before .before .args .a) _ (journaled (c .before .before .before .before .before .before .before .before .before .before .before .before .before .before .args .m .now) (c .before .before .before .before .before .before .before .before .before .before .before .before .before .before .args .journal .now)) _ (c .before .before .before .before .before .before .before .before .before .before .fetch-parcel .ensures) (c .before .before .before .before .before .before .before .if1 .left) _ _ _ (c .before .before .before .before .plus .ensures) (c .before .before .before .fetch-parcel2 .ensures) (c .if2 .left)
 
 pub fetch-two-spec : {M : Type 1} → statement M
 fetch-two-spec =

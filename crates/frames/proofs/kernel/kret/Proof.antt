@@ -18,7 +18,7 @@ same-length : tie.Need-same-length
 same-length c = (c .before .before .before .read-frame .kept .0)
 
 returns : tie.Need-returns
-returns c = kret-first (c .before .before .before .before .before .before .before .before .before .before .args .r .now) (c .before .before .before .before .before .before .before .before .before .before .args .q .now) _ (c .before .before .before .before .before .before .before .plus .ensures) _ (journaled (c .before .before .before .before .before .before .before .before .before .before .args .m .now) (c .before .before .before .before .before .before .before .before .before .before .args .journal .now)) _ (c .before .before .before .read-frame .ensures) (c .if1 .taken)
+returns c = λ q. kret-first (c .before .before .before .before .before .before .before .before .before .before .args .r .now) q _ (c .before .before .before .before .before .before .before .plus .ensures) _ (journaled (c .before .before .before .before .before .before .before .before .before .before .args .m .now) (c .before .before .before .before .before .before .before .before .before .before .args .journal .now)) _ (c .before .before .before .read-frame .ensures) (c .if1 .taken)
 
 element-copy-out-plus-2 : tie.Need-element-copy-out-plus-2
 element-copy-out-plus-2 c = search needs
@@ -33,7 +33,7 @@ same-length-2 : tie.Need-same-length-2
 same-length-2 c = (c .before .before .before .read-frame2 .kept .0) ∙ (c .before .before .before .before .before .before .before .before .before .before .before .before .read-frame .kept .0)
 
 returns-2 : tie.Need-returns-2
-returns-2 c = kret-second (c .before .before .before .before .before .before .before .before .before .before .before .before .before .before .before .before .before .before .before .args .r .now) (c .before .before .before .before .before .before .before .before .before .before .before .before .before .before .before .before .before .before .before .args .q .now) _ (c .before .before .before .before .before .before .before .before .before .before .before .before .before .before .before .before .plus .ensures) _ (journaled (c .before .before .before .before .before .before .before .before .before .before .before .before .before .before .before .before .before .before .before .args .m .now) (c .before .before .before .before .before .before .before .before .before .before .before .before .before .before .before .before .before .before .before .args .journal .now)) _ (c .before .before .before .before .before .before .before .before .before .before .before .before .read-frame .ensures) (c .before .before .before .before .before .before .before .before .before .if1 .left) _ (c .before .before .before .before .before .before .before .plus2 .ensures) _ _ (c .before .before .before .read-frame2 .ensures) (c .if2 .taken)
+returns-2 c = λ q. kret-second (c .before .before .before .before .before .before .before .before .before .before .before .before .before .before .before .before .before .before .before .args .r .now) q _ (c .before .before .before .before .before .before .before .before .before .before .before .before .before .before .before .before .plus .ensures) _ (journaled (c .before .before .before .before .before .before .before .before .before .before .before .before .before .before .before .before .before .before .before .args .m .now) (c .before .before .before .before .before .before .before .before .before .before .before .before .before .before .before .before .before .before .before .args .journal .now)) _ (c .before .before .before .before .before .before .before .before .before .before .before .before .read-frame .ensures) (c .before .before .before .before .before .before .before .before .before .if1 .left) _ (c .before .before .before .before .before .before .before .plus2 .ensures) _ _ (c .before .before .before .read-frame2 .ensures) (c .if2 .taken)
 
 low32-requires : tie.Need-low32-requires
 low32-requires c κs = search needs
@@ -48,7 +48,7 @@ same-length-3 : tie.Need-same-length-3
 same-length-3 c = (c .before .before .before .before .before .before .before .read-frame2 .kept .0) ∙ (c .before .before .before .before .before .before .before .before .before .before .before .before .before .before .before .before .read-frame .kept .0)
 
 returns-3 : tie.Need-returns-3
-returns-3 c = kret-done (c .before .before .before .before .before .before .before .before .before .before .before .before .before .before .before .before .before .before .before .before .before .before .before .args .r .now) (c .before .before .before .before .before .before .before .before .before .before .before .before .before .before .before .before .before .before .before .before .before .before .before .args .q .now) _ (c .before .before .before .before .before .before .before .before .before .before .before .before .before .before .before .before .before .before .before .before .plus .ensures) _ (journaled (c .before .before .before .before .before .before .before .before .before .before .before .before .before .before .before .before .before .before .before .before .before .before .before .args .m .now) (c .before .before .before .before .before .before .before .before .before .before .before .before .before .before .before .before .before .before .before .before .before .before .before .args .journal .now)) _ (c .before .before .before .before .before .before .before .before .before .before .before .before .before .before .before .before .read-frame .ensures) (c .before .before .before .before .before .before .before .before .before .before .before .before .before .if1 .left) _ (c .before .before .before .before .before .before .before .before .before .before .before .plus2 .ensures) _ _ (c .before .before .before .before .before .before .before .read-frame2 .ensures) (c .before .before .before .before .if2 .left) _ _ (c .before .before .before .low32 .ensures) (c .before .before .low322 .ensures) _ (c .returned .ensures)
+returns-3 c = λ q. kret-done (c .before .before .before .before .before .before .before .before .before .before .before .before .before .before .before .before .before .before .before .before .before .before .before .args .r .now) q _ (c .before .before .before .before .before .before .before .before .before .before .before .before .before .before .before .before .before .before .before .before .plus .ensures) _ (journaled (c .before .before .before .before .before .before .before .before .before .before .before .before .before .before .before .before .before .before .before .before .before .before .before .args .m .now) (c .before .before .before .before .before .before .before .before .before .before .before .before .before .before .before .before .before .before .before .before .before .before .before .args .journal .now)) _ (c .before .before .before .before .before .before .before .before .before .before .before .before .before .before .before .before .read-frame .ensures) (c .before .before .before .before .before .before .before .before .before .before .before .before .before .if1 .left) _ (c .before .before .before .before .before .before .before .before .before .before .before .plus2 .ensures) _ _ (c .before .before .before .before .before .before .before .read-frame2 .ensures) (c .before .before .before .before .if2 .left) _ _ (c .before .before .before .low32 .ensures) (c .before .before .low322 .ensures) _ (c .returned .ensures)
 
 pub kret-spec : {M : Type 1} → statement M
 kret-spec =

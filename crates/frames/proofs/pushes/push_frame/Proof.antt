@@ -18,7 +18,7 @@ same-length : tie.Need-same-length
 same-length c = (c .before .before .before .write-frame .kept .0)
 
 returns : tie.Need-returns
-returns c = third-stopped (c .before .before .before .before .before .before .before .before .before .before .args .r .now) (c .before .before .before .before .before .before .before .before .before .before .args .q .now) (c .before .before .before .before .before .before .before .before .before .before .args .v) (c .before .before .before .before .before .before .before .before .before .before .args .a) _ (c .before .before .before .before .before .before .before .minus .ensures) _ (journaled (c .before .before .before .before .before .before .before .before .before .before .args .m .now) (c .before .before .before .before .before .before .before .before .before .before .args .journal .now)) _ (c .before .before .before .write-frame .ensures) (c .if1 .taken)
+returns c = λ q. third-stopped (c .before .before .before .before .before .before .before .before .before .before .args .r .now) q (c .before .before .before .before .before .before .before .before .before .before .args .v) (c .before .before .before .before .before .before .before .before .before .before .args .a) _ (c .before .before .before .before .before .before .before .minus .ensures) _ (journaled (c .before .before .before .before .before .before .before .before .before .before .args .m .now) (c .before .before .before .before .before .before .before .before .before .before .args .journal .now)) _ (c .before .before .before .write-frame .ensures) (c .if1 .taken)
 
 push-pair-requires : tie.Need-push-pair-requires
 push-pair-requires c κs = search needs
@@ -27,7 +27,7 @@ same-length-2 : tie.Need-same-length-2
 same-length-2 c = (c .before .before .push-pair .kept .0) ∙ (c .before .before .before .before .before .before .before .before .before .write-frame .kept .0)
 
 returns-2 : tie.Need-returns-2
-returns-2 c = third-pushed (c .before .before .before .before .before .before .before .before .before .before .before .before .before .before .before .before .args .r .now) (c .before .before .before .before .before .before .before .before .before .before .before .before .before .before .before .before .args .q .now) (c .before .before .before .before .before .before .before .before .before .before .before .before .before .before .before .before .args .v) (c .before .before .before .before .before .before .before .before .before .before .before .before .before .before .before .before .args .a) _ (c .before .before .before .before .before .before .before .before .before .before .before .before .before .minus .ensures) _ (journaled (c .before .before .before .before .before .before .before .before .before .before .before .before .before .before .before .before .args .m .now) (c .before .before .before .before .before .before .before .before .before .before .before .before .before .before .before .before .args .journal .now)) _ (c .before .before .before .before .before .before .before .before .before .write-frame .ensures) (c .before .before .before .before .before .before .if1 .left) _ (c .before .before .push-pair .ensures)
+returns-2 c = λ q. third-pushed (c .before .before .before .before .before .before .before .before .before .before .before .before .before .before .before .before .args .r .now) q (c .before .before .before .before .before .before .before .before .before .before .before .before .before .before .before .before .args .v) (c .before .before .before .before .before .before .before .before .before .before .before .before .before .before .before .before .args .a) _ (c .before .before .before .before .before .before .before .before .before .before .before .before .before .minus .ensures) _ (journaled (c .before .before .before .before .before .before .before .before .before .before .before .before .before .before .before .before .args .m .now) (c .before .before .before .before .before .before .before .before .before .before .before .before .before .before .before .before .args .journal .now)) _ (c .before .before .before .before .before .before .before .before .before .write-frame .ensures) (c .before .before .before .before .before .before .if1 .left) _ (c .before .before .push-pair .ensures q)
 
 pub push-frame-spec : {M : Type 1} → statement M
 push-frame-spec =

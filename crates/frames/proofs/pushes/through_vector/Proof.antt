@@ -17,7 +17,7 @@ same-length : tie.Need-same-length
 same-length c = (c .before .before .before .read-frame .kept .0)
 
 returns : tie.Need-returns
-returns c = vector-stopped (c .before .before .before .before .before .before .before .before .before .before .args .r .now) (c .before .before .before .before .before .before .before .before .before .before .args .q .now) (c .before .before .before .before .before .before .before .before .before .before .args .offset) _ (c .before .before .before .before .before .before .before .plus .ensures) _ (journaled (c .before .before .before .before .before .before .before .before .before .before .args .m .now) (c .before .before .before .before .before .before .before .before .before .before .args .journal .now)) _ (c .before .before .before .read-frame .ensures) (c .if1 .taken)
+returns c = λ q. vector-stopped (c .before .before .before .before .before .before .before .before .before .before .args .r .now) q (c .before .before .before .before .before .before .before .before .before .before .args .offset) _ (c .before .before .before .before .before .before .before .plus .ensures) _ (journaled (c .before .before .before .before .before .before .before .before .before .before .args .m .now) (c .before .before .before .before .before .before .before .before .before .before .args .journal .now)) _ (c .before .before .before .read-frame .ensures) (c .if1 .taken)
 
 low32-requires : tie.Need-low32-requires
 low32-requires c κs = search needs
@@ -29,7 +29,7 @@ same-length-2 : tie.Need-same-length-2
 same-length-2 c = (c .before .before .before .before .before .before .read-frame .kept .0)
 
 returns-2 : tie.Need-returns-2
-returns-2 c = vector-taken (c .before .before .before .before .before .before .before .before .before .before .before .before .before .args .r .now) (c .before .before .before .before .before .before .before .before .before .before .before .before .before .args .q .now) (c .before .before .before .before .before .before .before .before .before .before .before .before .before .args .offset) _ (c .before .before .before .before .before .before .before .before .before .before .plus .ensures) _ (journaled (c .before .before .before .before .before .before .before .before .before .before .before .before .before .args .m .now) (c .before .before .before .before .before .before .before .before .before .before .before .before .before .args .journal .now)) _ (c .before .before .before .before .before .before .read-frame .ensures) (c .before .before .before .if1 .left) _ (c .before .before .low32 .ensures) _ (c .vectored .ensures)
+returns-2 c = λ q. vector-taken (c .before .before .before .before .before .before .before .before .before .before .before .before .before .args .r .now) q (c .before .before .before .before .before .before .before .before .before .before .before .before .before .args .offset) _ (c .before .before .before .before .before .before .before .before .before .before .plus .ensures) _ (journaled (c .before .before .before .before .before .before .before .before .before .before .before .before .before .args .m .now) (c .before .before .before .before .before .before .before .before .before .before .before .before .before .args .journal .now)) _ (c .before .before .before .before .before .before .read-frame .ensures) (c .before .before .before .if1 .left) _ (c .before .before .low32 .ensures) _ (c .vectored .ensures)
 
 pub through-vector-spec : {M : Type 1} → statement M
 through-vector-spec =

@@ -18,7 +18,7 @@ same-length : tie.Need-same-length
 same-length c = (c .before .before .before .push-frame .kept .0)
 
 returns : tie.Need-returns
-returns c = exception-stopped (c .before .before .before .before .before .before .before .before .before .before .before .args .r .now) (c .before .before .before .before .before .before .before .before .before .before .before .args .q .now) _ (c .before .before .before .before .before .before .before .restored-csp .ensures) (c .before .before .before .before .before .before .before .before .before .before .before .args .e) _ _ (journaled (c .before .before .before .before .before .before .before .before .before .before .before .args .m .now) (c .before .before .before .before .before .before .before .before .before .before .before .args .journal .now)) _ (c .before .before .before .push-frame .ensures) (c .if1 .taken)
+returns c = λ q. exception-stopped (c .before .before .before .before .before .before .before .before .before .before .before .args .r .now) q _ (c .before .before .before .before .before .before .before .restored-csp .ensures) (c .before .before .before .before .before .before .before .before .before .before .before .args .e) _ _ (journaled (c .before .before .before .before .before .before .before .before .before .before .before .args .m .now) (c .before .before .before .before .before .before .before .before .before .before .before .args .journal .now)) _ (c .before .before .before .push-frame .ensures q) (c .if1 .taken)
 
 through-vector-requires : tie.Need-through-vector-requires
 through-vector-requires c κs = search needs
@@ -27,7 +27,7 @@ same-length-2 : tie.Need-same-length-2
 same-length-2 c = (c .before .before .through-vector .kept .0) ∙ (c .before .before .before .before .before .before .before .before .before .push-frame .kept .0)
 
 returns-2 : tie.Need-returns-2
-returns-2 c = exception-taken (c .before .before .before .before .before .before .before .before .before .before .before .before .before .before .before .before .before .args .r .now) (c .before .before .before .before .before .before .before .before .before .before .before .before .before .before .before .before .before .args .q .now) _ (c .before .before .before .before .before .before .before .before .before .before .before .before .before .restored-csp .ensures) (c .before .before .before .before .before .before .before .before .before .before .before .before .before .before .before .before .before .args .e) _ _ (journaled (c .before .before .before .before .before .before .before .before .before .before .before .before .before .before .before .before .before .args .m .now) (c .before .before .before .before .before .before .before .before .before .before .before .before .before .before .before .before .before .args .journal .now)) _ (c .before .before .before .before .before .before .before .before .before .push-frame .ensures) (c .before .before .before .before .before .before .if1 .left) _ (c .before .before .through-vector .ensures)
+returns-2 c = λ q. exception-taken (c .before .before .before .before .before .before .before .before .before .before .before .before .before .before .before .before .before .args .r .now) q _ (c .before .before .before .before .before .before .before .before .before .before .before .before .before .restored-csp .ensures) (c .before .before .before .before .before .before .before .before .before .before .before .before .before .before .before .before .before .args .e) _ _ (journaled (c .before .before .before .before .before .before .before .before .before .before .before .before .before .before .before .before .before .args .m .now) (c .before .before .before .before .before .before .before .before .before .before .before .before .before .before .before .before .before .args .journal .now)) _ (c .before .before .before .before .before .before .before .before .before .push-frame .ensures q) (c .before .before .before .before .before .before .if1 .left) _ (c .before .before .through-vector .ensures q)
 
 pub exception-sequence-spec : {M : Type 1} → statement M
 exception-sequence-spec =

@@ -29,7 +29,7 @@ same-length-2 : tie.Need-same-length-2
 same-length-2 c = (c .before .before .store-pc .kept .0)
 
 returns-2 : tie.Need-returns-2
-returns-2 c = saved-frame (c .before .before .before .before .before .before .before .before .before .before .before .args .r .now) (c .before .before .before .before .before .before .before .before .before .before .before .args .q .now) (journaled (c .before .before .before .before .before .before .before .before .before .before .before .args .m .now) (c .before .before .before .before .before .before .before .before .before .before .before .args .journal .now)) _ (c .before .before .before .before .before .before .before .before .sp-current .ensures) _ (c .before .before .before .before .before .before .before .if1 .left) (c .before .before .store-pc .ensures)
+returns-2 c = saved-frame (c .before .before .before .before .before .before .before .before .before .before .args .r .now) (c .before .before .before .before .before .before .before .before .before .before .args .q .now) (journaled (c .before .before .before .before .before .before .before .before .before .before .args .m .now) (c .before .before .before .before .before .before .before .before .before .before .args .journal .now)) _ (c .before .before .before .before .before .before .before .sp-current .ensures) _ (c .before .before .before .before .before .before .if1 .left) (c .before .before .store-pc .ensures _)
 
 pub save-pc-spec : {M : Type 1} → statement M
 save-pc-spec =

@@ -17,13 +17,13 @@ same-length : tie.Need-same-length
 same-length c = (c .before .before .before .write-frame .kept .0)
 
 returns : tie.Need-returns
-returns c = pc-stopped (c .before .before .before .before .before .before .before .before .before .args .r .now) (c .before .before .before .before .before .before .before .before .before .args .q .now) (journaled (c .before .before .before .before .before .before .before .before .before .args .m .now) (c .before .before .before .before .before .before .before .before .before .args .journal .now)) _ _ (c .before .before .before .write-frame .ensures) (c .if1 .taken)
+returns c = λ q. pc-stopped (c .before .before .before .before .before .before .before .before .before .args .r .now) q (journaled (c .before .before .before .before .before .before .before .before .before .args .m .now) (c .before .before .before .before .before .before .before .before .before .args .journal .now)) _ _ (c .before .before .before .write-frame .ensures) (c .if1 .taken)
 
 same-length-2 : tie.Need-same-length-2
 same-length-2 c = (c .before .before .before .write-frame .kept .0)
 
 returns-2 : tie.Need-returns-2
-returns-2 c = pc-stored (c .before .before .before .before .before .before .before .before .before .args .r .now) (c .before .before .before .before .before .before .before .before .before .args .q .now) (journaled (c .before .before .before .before .before .before .before .before .before .args .m .now) (c .before .before .before .before .before .before .before .before .before .args .journal .now)) _ _ (c .before .before .before .write-frame .ensures) (c .if1 .left)
+returns-2 c = λ q. pc-stored (c .before .before .before .before .before .before .before .before .before .args .r .now) q (journaled (c .before .before .before .before .before .before .before .before .before .args .m .now) (c .before .before .before .before .before .before .before .before .before .args .journal .now)) _ _ (c .before .before .before .write-frame .ensures) (c .if1 .left)
 
 pub store-pc-spec : {M : Type 1} → statement M
 store-pc-spec =

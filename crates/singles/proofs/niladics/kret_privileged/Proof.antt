@@ -14,13 +14,13 @@ kret-requires : tie.Need-kret-requires
 kret-requires c κs = search needs
 
 returns : tie.Need-returns
-returns c = user-stopped (c .before .before .before .before .before .args .r .now) (c .before .before .before .before .before .args .q .now) _ (journaled (c .before .before .before .before .before .args .m .now) (c .before .before .before .before .before .args .journal .now)) _ (c .before .before .is-user .ensures) (c .before .if1 .taken) _ (c .raised .ensures)
+returns c = λ q. user-stopped (c .before .before .before .before .before .args .r .now) q _ (journaled (c .before .before .before .before .before .args .m .now) (c .before .before .before .before .before .args .journal .now)) _ (c .before .before .is-user .ensures) (c .before .if1 .taken) _ (c .raised .ensures)
 
 same-length : tie.Need-same-length
 same-length c = search needs
 
 returns-2 : tie.Need-returns-2
-returns-2 c = kernel-gone (c .before .before .before .before .before .before .before .before .before .before .args .r .now) (c .before .before .before .before .before .before .before .before .before .before .args .q .now) _ (journaled (c .before .before .before .before .before .before .before .before .before .before .args .m .now) (c .before .before .before .before .before .before .before .before .before .before .args .journal .now)) _ (c .before .before .before .before .before .before .before .is-user .ensures) (c .before .before .before .before .before .before .if1 .left) _ (c .before .before .kret .ensures)
+returns-2 c = λ q. kernel-gone (c .before .before .before .before .before .before .before .before .before .before .args .r .now) q _ (journaled (c .before .before .before .before .before .before .before .before .before .before .args .m .now) (c .before .before .before .before .before .before .before .before .before .before .args .journal .now)) _ (c .before .before .before .before .before .before .before .is-user .ensures) (c .before .before .before .before .before .before .if1 .left) _ (c .before .before .kret .ensures q)
 
 pub kret-privileged-spec : {M : Type 1} → statement M
 kret-privileged-spec =

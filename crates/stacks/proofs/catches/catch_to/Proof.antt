@@ -25,16 +25,16 @@ check-msp-requires : tie.Need-check-msp-requires
 check-msp-requires c κs = search needs
 
 same-length-2 : tie.Need-same-length-2
-same-length-2 c = (c .before .before .before .before .before .before .before .before .before .before .fill .kept .0)
+same-length-2 c = (c .before .before .before .before .before .before .before .before .fill .kept .0)
 
 returns-2 : tie.Need-returns-2
-returns-2 c = check-stopped (c .before .before .before .before .before .before .before .before .before .before .before .before .before .before .before .before .before .args .r .now) (c .before .before .before .before .before .before .before .before .before .before .before .before .before .before .before .before .before .args .q .now) (regimeFor (c .before .before .before .before .before .before .before .before .before .before .before .before .before .before .before .before .before .args .stb) (c .before .before .before .before .before .before .before .before .before .before .before .before .before .before .before .before .before .args .user) (c .before .before .before .before .before .before .before .before .before .before .before .before .before .before .before .before .before .args .translated)) (c .before .before .before .before .before .before .before .before .before .before .before .before .before .before .before .before .before .args .target) _ _ _ (journaled (c .before .before .before .before .before .before .before .before .before .before .before .before .before .before .before .before .before .args .m .now) (c .before .before .before .before .before .before .before .before .before .before .before .before .before .before .before .before .before .args .journal .now)) _ (c .before .before .before .before .before .before .before .before .before .before .fill .ensures) (c .before .before .before .before .before .before .before .if1 .left) _ _ _ (c .before .check-msp .ensures) (c .if2 .taken)
+returns-2 c = check-stopped (c .before .before .before .before .before .before .before .before .before .before .before .before .before .before .before .args .r .now) (c .before .before .before .before .before .before .before .before .before .before .before .before .before .before .before .args .q .now) (regimeFor (c .before .before .before .before .before .before .before .before .before .before .before .before .before .before .before .args .stb) (c .before .before .before .before .before .before .before .before .before .before .before .before .before .before .before .args .user) (c .before .before .before .before .before .before .before .before .before .before .before .before .before .before .before .args .translated)) (c .before .before .before .before .before .before .before .before .before .before .before .before .before .before .before .args .target) _ _ _ (journaled (c .before .before .before .before .before .before .before .before .before .before .before .before .before .before .before .args .m .now) (c .before .before .before .before .before .before .before .before .before .before .before .before .before .before .before .args .journal .now)) _ (c .before .before .before .before .before .before .before .before .fill .ensures) (c .before .before .before .before .before .if1 .left) _ _ _ (c .before .check-msp .ensures _ _) (c .if2 .taken)
 
 same-length-3 : tie.Need-same-length-3
-same-length-3 c = (c .before .before .before .before .before .before .before .before .before .before .fill .kept .0)
+same-length-3 c = (c .before .before .before .before .before .before .before .before .fill .kept .0)
 
 returns-3 : tie.Need-returns-3
-returns-3 c = caught (c .before .before .before .before .before .before .before .before .before .before .before .before .before .before .before .before .before .args .r .now) (c .before .before .before .before .before .before .before .before .before .before .before .before .before .before .before .before .before .args .q .now) (regimeFor (c .before .before .before .before .before .before .before .before .before .before .before .before .before .before .before .before .before .args .stb) (c .before .before .before .before .before .before .before .before .before .before .before .before .before .before .before .before .before .args .user) (c .before .before .before .before .before .before .before .before .before .before .before .before .before .before .before .before .before .args .translated)) (c .before .before .before .before .before .before .before .before .before .before .before .before .before .before .before .before .before .args .target) _ _ _ (journaled (c .before .before .before .before .before .before .before .before .before .before .before .before .before .before .before .before .before .args .m .now) (c .before .before .before .before .before .before .before .before .before .before .before .before .before .before .before .before .before .args .journal .now)) _ (c .before .before .before .before .before .before .before .before .before .before .fill .ensures) (c .before .before .before .before .before .before .before .if1 .left) _ _ _ (c .before .check-msp .ensures) (c .if2 .left)
+returns-3 c = caught (c .before .before .before .before .before .before .before .before .before .before .before .before .before .before .before .args .r .now) (c .before .before .before .before .before .before .before .before .before .before .before .before .before .before .before .args .q .now) (regimeFor (c .before .before .before .before .before .before .before .before .before .before .before .before .before .before .before .args .stb) (c .before .before .before .before .before .before .before .before .before .before .before .before .before .before .before .args .user) (c .before .before .before .before .before .before .before .before .before .before .before .before .before .before .before .args .translated)) (c .before .before .before .before .before .before .before .before .before .before .before .before .before .before .before .args .target) _ _ _ (journaled (c .before .before .before .before .before .before .before .before .before .before .before .before .before .before .before .args .m .now) (c .before .before .before .before .before .before .before .before .before .before .before .before .before .before .before .args .journal .now)) _ (c .before .before .before .before .before .before .before .before .fill .ensures) (c .before .before .before .before .before .if1 .left) _ _ _ (c .before .check-msp .ensures _ _) (c .if2 .left)
 
 pub catch-to-spec : {M : Type 1} → statement M
 catch-to-spec =

@@ -41,13 +41,13 @@ same-length-3 : tie.Need-same-length-3
 same-length-3 c = search needs
 
 returns-3 : tie.Need-returns-3
-returns-3 c = at-uncached (c .before .before .before .before .before .before .before .before .before .before .before .args .r .now) (c .before .before .before .before .before .before .before .before .before .before .before .args .q .now) (c .before .before .before .before .before .before .before .before .before .before .before .args .mode) (c .before .before .before .before .before .before .before .before .before .before .before .args .target) (journaled (c .before .before .before .before .before .before .before .before .before .before .before .args .m .now) (c .before .before .before .before .before .before .before .before .before .before .before .args .journal .now)) _ _ (c .before .before .before .before .before .before .before .before .sp-current .ensures) (c .before .before .before .before .before .before .before .if1 .taken) _ (c .before .before .before .before .before .cache-on .ensures) (c .before .before .before .before .if2 .left) (c .enter-uncached .ensures)
+returns-3 c = at-uncached (c .before .before .before .before .before .before .before .before .before .before .args .r .now) (c .before .before .before .before .before .before .before .before .before .before .args .q .now) (c .before .before .before .before .before .before .before .before .before .before .args .mode) (c .before .before .before .before .before .before .before .before .before .before .args .target) (journaled (c .before .before .before .before .before .before .before .before .before .before .args .m .now) (c .before .before .before .before .before .before .before .before .before .before .args .journal .now)) _ _ (c .before .before .before .before .before .before .before .sp-current .ensures) (c .before .before .before .before .before .before .if1 .taken) _ (c .before .before .before .before .cache-on .ensures) (c .before .before .before .if2 .left) (c .enter-uncached .ensures _ _)
 
 same-length-4 : tie.Need-same-length-4
 same-length-4 c = search needs
 
 returns-4 : tie.Need-returns-4
-returns-4 c = at-plain (c .before .before .before .before .before .before .before .before .args .r .now) (c .before .before .before .before .before .before .before .before .args .q .now) (c .before .before .before .before .before .before .before .before .args .mode) (c .before .before .before .before .before .before .before .before .args .target) (journaled (c .before .before .before .before .before .before .before .before .args .m .now) (c .before .before .before .before .before .before .before .before .args .journal .now)) _ _ (c .before .before .before .before .before .sp-current .ensures) (c .before .before .before .before .if1 .left) (c .enter-plain .ensures)
+returns-4 c = at-plain (c .before .before .before .before .before .before .before .args .r .now) (c .before .before .before .before .before .before .before .args .q .now) (c .before .before .before .before .before .before .before .args .mode) (c .before .before .before .before .before .before .before .args .target) (journaled (c .before .before .before .before .before .before .before .args .m .now) (c .before .before .before .before .before .before .before .args .journal .now)) _ _ (c .before .before .before .before .sp-current .ensures) (c .before .before .before .if1 .left) (c .enter-plain .ensures _ _)
 
 pub enter-at-spec : {M : Type 1} → statement M
 enter-at-spec =

@@ -15,7 +15,7 @@ check-target-requires : tie.Need-check-target-requires
 check-target-requires c κs = search needs
 
 returns : tie.Need-returns
-returns c = clipped-first (c .before .before .before .before .before .before .args .r .now) (c .before .before .before .before .before .before .args .q .now) (c .before .before .before .before .before .before .args .target) (c .before .before .before .before .before .before .args .old) _ (c .before .before .before .clipped .ensures) _ _ (journaled (c .before .before .before .before .before .before .args .m .now) (c .before .before .before .before .before .before .args .journal .now)) _ (c .before .check-target .ensures) (c .if1 .taken)
+returns c = λ q j. clipped-first (c .before .before .before .before .before .before .args .r .now) q (c .before .before .before .before .before .before .args .target) (c .before .before .before .before .before .before .args .old) _ (c .before .before .before .clipped .ensures) _ _ (journaled (c .before .before .before .before .before .before .args .m .now) j) _ (c .before .check-target .ensures q j) (c .if1 .taken)
 
 element-copy-out-stb : tie.Need-element-copy-out-stb
 element-copy-out-stb c = search needs
@@ -30,7 +30,7 @@ check-msp-requires : tie.Need-check-msp-requires
 check-msp-requires c κs = search needs
 
 returns-2 : tie.Need-returns-2
-returns-2 c = clipped-second (c .before .before .before .before .before .before .before .before .before .before .before .before .before .before .args .r .now) (c .before .before .before .before .before .before .before .before .before .before .before .before .before .before .args .q .now) (c .before .before .before .before .before .before .before .before .before .before .before .before .before .before .args .target) (c .before .before .before .before .before .before .before .before .before .before .before .before .before .before .args .old) _ (c .before .before .before .before .before .before .before .before .before .before .before .clipped .ensures) _ _ (journaled (c .before .before .before .before .before .before .before .before .before .before .before .before .before .before .args .m .now) (c .before .before .before .before .before .before .before .before .before .before .before .before .before .before .args .journal .now)) _ (c .before .before .before .before .before .before .before .before .before .check-target .ensures) (c .before .before .before .before .before .before .before .before .if1 .left) _ _ (c .before .before .before .before .before .is-user .ensures) (c .before .before .before .is-virtual .ensures) _ _ _ (c .before .check-msp .ensures) (c .if2 .taken)
+returns-2 c = λ q j. clipped-second (c .before .before .before .before .before .before .before .before .before .before .before .before .before .before .args .r .now) q (c .before .before .before .before .before .before .before .before .before .before .before .before .before .before .args .target) (c .before .before .before .before .before .before .before .before .before .before .before .before .before .before .args .old) _ (c .before .before .before .before .before .before .before .before .before .before .before .clipped .ensures) _ _ (journaled (c .before .before .before .before .before .before .before .before .before .before .before .before .before .before .args .m .now) j) _ (c .before .before .before .before .before .before .before .before .before .check-target .ensures q j) (c .before .before .before .before .before .before .before .before .if1 .left) _ _ (c .before .before .before .before .before .is-user .ensures) (c .before .before .before .is-virtual .ensures) _ _ _ (c .before .check-msp .ensures q j) (c .if2 .taken)
 
 with-csp-requires : tie.Need-with-csp-requires
 with-csp-requires c κs = search needs
@@ -39,7 +39,7 @@ element-write-r : tie.Need-element-write-r
 element-write-r c = search needs
 
 returns-3 : tie.Need-returns-3
-returns-3 c = clipped-done (c .before .before .before .before .before .before .before .before .before .before .before .before .before .before .before .before .args .r .now) (c .before .before .before .before .before .before .before .before .before .before .before .before .before .before .before .before .args .q .now) (c .before .before .before .before .before .before .before .before .before .before .before .before .before .before .before .before .args .target) (c .before .before .before .before .before .before .before .before .before .before .before .before .before .before .before .before .args .old) _ (c .before .before .before .before .before .before .before .before .before .before .before .before .before .clipped .ensures) _ _ (journaled (c .before .before .before .before .before .before .before .before .before .before .before .before .before .before .before .before .args .m .now) (c .before .before .before .before .before .before .before .before .before .before .before .before .before .before .before .before .args .journal .now)) _ (c .before .before .before .before .before .before .before .before .before .before .before .check-target .ensures) (c .before .before .before .before .before .before .before .before .before .before .if1 .left) _ _ (c .before .before .before .before .before .before .before .is-user .ensures) (c .before .before .before .before .before .is-virtual .ensures) _ _ _ (c .before .before .before .check-msp .ensures) (c .before .before .if2 .left) _ (c .with-csp .ensures)
+returns-3 c = λ q j. clipped-done (c .before .before .before .before .before .before .before .before .before .before .before .before .before .before .before .before .args .r .now) q (c .before .before .before .before .before .before .before .before .before .before .before .before .before .before .before .before .args .target) (c .before .before .before .before .before .before .before .before .before .before .before .before .before .before .before .before .args .old) _ (c .before .before .before .before .before .before .before .before .before .before .before .before .before .clipped .ensures) _ _ (journaled (c .before .before .before .before .before .before .before .before .before .before .before .before .before .before .before .before .args .m .now) j) _ (c .before .before .before .before .before .before .before .before .before .before .before .check-target .ensures q j) (c .before .before .before .before .before .before .before .before .before .before .if1 .left) _ _ (c .before .before .before .before .before .before .before .is-user .ensures) (c .before .before .before .before .before .is-virtual .ensures) _ _ _ (c .before .before .before .check-msp .ensures q j) (c .before .before .if2 .left) _ (c .with-csp .ensures)
 
 pub enter-clipped-spec : {M : Type 1} → statement M
 enter-clipped-spec =

@@ -18,10 +18,10 @@ enter-uncached-requires : tie.Need-enter-uncached-requires
 enter-uncached-requires c κs = search needs
 
 same-length-2 : tie.Need-same-length-2
-same-length-2 c = (c .before .before .before .before .before .before .before .flush .kept .0)
+same-length-2 c = (c .before .before .before .before .before .before .flush .kept .0)
 
 returns-2 : tie.Need-returns-2
-returns-2 c = empty-done (c .before .before .before .before .before .before .before .before .before .before .before .before .args .r .now) (c .before .before .before .before .before .before .before .before .before .before .before .before .args .q .now) (c .before .before .before .before .before .before .before .before .before .before .before .before .args .target) _ _ (journaled (c .before .before .before .before .before .before .before .before .before .before .before .before .args .m .now) (c .before .before .before .before .before .before .before .before .before .before .before .before .args .journal .now)) _ (c .before .before .before .before .before .before .before .flush .ensures) (c .before .before .before .before .if1 .left) _ (c .enter-uncached .ensures)
+returns-2 c = empty-done (c .before .before .before .before .before .before .before .before .before .before .before .args .r .now) (c .before .before .before .before .before .before .before .before .before .before .before .args .q .now) (c .before .before .before .before .before .before .before .before .before .before .before .args .target) _ _ (journaled (c .before .before .before .before .before .before .before .before .before .before .before .args .m .now) (c .before .before .before .before .before .before .before .before .before .before .before .args .journal .now)) _ (c .before .before .before .before .before .before .flush .ensures) (c .before .before .before .if1 .left) _ (c .enter-uncached .ensures _ _)
 
 pub enter-empty-spec : {M : Type 1} → statement M
 enter-empty-spec =

@@ -21,10 +21,10 @@ enter-clipped-requires : tie.Need-enter-clipped-requires
 enter-clipped-requires c κs = search needs
 
 same-length-2 : tie.Need-same-length-2
-same-length-2 c = (c .before .before .before .before .before .before .before .flush .kept .0)
+same-length-2 c = (c .before .before .before .before .before .before .flush .kept .0)
 
 returns-2 : tie.Need-returns-2
-returns-2 c = offset-done (c .before .before .before .before .before .before .before .before .before .before .before .before .before .args .r .now) (c .before .before .before .before .before .before .before .before .before .before .before .before .before .args .q .now) (c .before .before .before .before .before .before .before .before .before .before .before .before .before .args .target) _ _ (journaled (c .before .before .before .before .before .before .before .before .before .before .before .before .before .args .m .now) (c .before .before .before .before .before .before .before .before .before .before .before .before .before .args .journal .now)) _ (c .before .before .before .before .before .before .before .flush .ensures) (c .before .before .before .before .if1 .left) _ (c .enter-clipped .ensures)
+returns-2 c = offset-done (c .before .before .before .before .before .before .before .before .before .before .before .before .args .r .now) (c .before .before .before .before .before .before .before .before .before .before .before .before .args .q .now) (c .before .before .before .before .before .before .before .before .before .before .before .before .args .target) _ _ (journaled (c .before .before .before .before .before .before .before .before .before .before .before .before .args .m .now) (c .before .before .before .before .before .before .before .before .before .before .before .before .args .journal .now)) _ (c .before .before .before .before .before .before .flush .ensures) (c .before .before .before .if1 .left) _ (c .enter-clipped .ensures _ _)
 
 pub enter-offset-spec : {M : Type 1} → statement M
 enter-offset-spec =

@@ -8,7 +8,7 @@ check-target-requires : tie.Need-check-target-requires
 check-target-requires c κs = search needs
 
 returns : tie.Need-returns
-returns c = uncached-stopped (c .before .before .before .before .args .r .now) (c .before .before .before .before .args .q .now) (c .before .before .before .before .args .target) _ _ (journaled (c .before .before .before .before .args .m .now) (c .before .before .before .before .args .journal .now)) _ (c .before .check-target .ensures) (c .if1 .taken)
+returns c = λ q j. uncached-stopped (c .before .before .before .before .args .r .now) q (c .before .before .before .before .args .target) _ _ (journaled (c .before .before .before .before .args .m .now) j) _ (c .before .check-target .ensures q j) (c .if1 .taken)
 
 with-csp-requires : tie.Need-with-csp-requires
 with-csp-requires c κs = search needs
@@ -17,7 +17,7 @@ element-write-r : tie.Need-element-write-r
 element-write-r c = search needs
 
 returns-2 : tie.Need-returns-2
-returns-2 c = uncached-done (c .before .before .before .before .before .before .args .r .now) (c .before .before .before .before .before .before .args .q .now) (c .before .before .before .before .before .before .args .target) _ _ (journaled (c .before .before .before .before .before .before .args .m .now) (c .before .before .before .before .before .before .args .journal .now)) _ (c .before .before .before .check-target .ensures) (c .before .before .if1 .left) _ (c .with-csp .ensures)
+returns-2 c = λ q j. uncached-done (c .before .before .before .before .before .before .args .r .now) q (c .before .before .before .before .before .before .args .target) _ _ (journaled (c .before .before .before .before .before .before .args .m .now) j) _ (c .before .before .before .check-target .ensures q j) (c .before .before .if1 .left) _ (c .with-csp .ensures)
 
 pub enter-uncached-spec : {M : Type 1} → statement M
 enter-uncached-spec =

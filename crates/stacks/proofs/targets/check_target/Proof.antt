@@ -17,7 +17,7 @@ check-requires : tie.Need-check-requires
 check-requires c κs = search needs
 
 returns : tie.Need-returns
-returns c = target-checked (c .before .before .before .before .before .before .before .before .args .r .now) (c .before .before .before .before .before .before .before .before .args .q .now) (c .before .before .before .before .before .before .before .before .args .a) _ _ (journaled (c .before .before .before .before .before .before .before .before .args .m .now) (c .before .before .before .before .before .before .before .before .args .journal .now)) _ _ _ (c .before .before .before .before .is-user .ensures) (c .before .before .is-virtual .ensures) (c .check .ensures)
+returns c = λ q j. target-checked (c .before .before .before .before .before .before .before .before .args .r .now) q (c .before .before .before .before .before .before .before .before .args .a) _ _ (journaled (c .before .before .before .before .before .before .before .before .args .m .now) j) _ _ _ (c .before .before .before .before .is-user .ensures) (c .before .before .is-virtual .ensures) (c .check .ensures q j)
 
 pub check-target-spec : {M : Type 1} → statement M
 check-target-spec =

@@ -18,7 +18,7 @@ same-length : tie.Need-same-length
 same-length c = c .before .before .before .before .exception-sequence .kept .0
 
 returns : tie.Need-returns
-returns c = trace-taken (c .before .before .before .before .before .before .before .before .before .before .before .before .args .r .now) (c .before .before .before .before .before .before .before .before .before .before .before .before .args .q .now) (c .before .before .before .before .before .before .before .before .before .before .before .before .args .code % 32) _ (c .before .before .before .before .before .before .before .before .before .taken .ensures) (journaled (c .before .before .before .before .before .before .before .before .before .before .before .before .args .m .now) (c .before .before .before .before .before .before .before .before .before .before .before .before .args .journal .now)) _ _ _ _ (c .settle .ensures) (c .before .before .before .before .before .before .before .before .if1 .taken) (c .before .before .before .before .exception-sequence .ensures)
+returns c = λ q. trace-taken (c .before .before .before .before .before .before .before .before .before .before .before .before .args .r .now) q (c .before .before .before .before .before .before .before .before .before .before .before .before .args .code % 32) _ (c .before .before .before .before .before .before .before .before .before .taken .ensures) (journaled (c .before .before .before .before .before .before .before .before .before .before .before .before .args .m .now) (c .before .before .before .before .before .before .before .before .before .before .before .before .args .journal .now)) _ _ _ _ (c .settle .ensures) (c .before .before .before .before .before .before .before .before .if1 .taken) (c .before .before .before .before .exception-sequence .ensures q)
 
 vector-of-requires : tie.Need-vector-of-requires
 vector-of-requires c κs = search needs
@@ -33,7 +33,7 @@ same-length-2 : tie.Need-same-length-2
 same-length-2 c = c .before .before .before .before .interrupt-sequence .kept .0
 
 returns-2 : tie.Need-returns-2
-returns-2 c = interrupt-taken (c .before .before .before .before .before .before .before .before .before .before .before .before .before .args .r .now) (c .before .before .before .before .before .before .before .before .before .before .before .before .before .args .q .now) (c .before .before .before .before .before .before .before .before .before .before .before .before .before .args .code % 32) _ (c .before .before .before .before .before .before .before .before .before .before .taken .ensures) (journaled (c .before .before .before .before .before .before .before .before .before .before .before .before .before .args .m .now) (c .before .before .before .before .before .before .before .before .before .before .before .before .before .args .journal .now)) _ _ _ _ (c .settle2 .ensures) (c .before .before .before .before .before .before .before .before .before .if1 .left) _ (c .before .before .before .before .before .vector-of .ensures) (c .before .before .before .before .interrupt-sequence .ensures)
+returns-2 c = λ q. interrupt-taken (c .before .before .before .before .before .before .before .before .before .before .before .before .before .args .r .now) q (c .before .before .before .before .before .before .before .before .before .before .before .before .before .args .code % 32) _ (c .before .before .before .before .before .before .before .before .before .before .taken .ensures) (journaled (c .before .before .before .before .before .before .before .before .before .before .before .before .before .args .m .now) (c .before .before .before .before .before .before .before .before .before .before .before .before .before .args .journal .now)) _ _ _ _ (c .settle2 .ensures) (c .before .before .before .before .before .before .before .before .before .if1 .left) _ (c .before .before .before .before .before .vector-of .ensures) (c .before .before .before .before .interrupt-sequence .ensures q)
 
 pub event-step-spec : {M : Type 1} → statement M
 event-step-spec =

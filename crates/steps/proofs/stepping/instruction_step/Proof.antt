@@ -15,10 +15,10 @@ finish-requires : tie.Need-finish-requires
 finish-requires c κs = search needs
 
 same-length : tie.Need-same-length
-same-length c = c .before .before .finish .kept .0 ∙ c .before .before .before .before .before .before .before .before .before .attempt .kept .0
+same-length c = c .before .before .finish .kept .0 ∙ c .before .before .before .before .before .before .before .before .attempt .kept .0
 
 returns : tie.Need-returns
-returns c = instruction-stepped (c .before .before .before .before .before .before .before .before .before .before .before .before .before .before .before .before .args .r .now) (c .before .before .before .before .before .before .before .before .before .before .before .before .before .before .before .before .args .q .now) _ _ _ (journaled (c .before .before .before .before .before .before .before .before .before .before .before .before .before .before .before .before .args .m .now) (c .before .before .before .before .before .before .before .before .before .before .before .before .before .before .before .before .args .journal .now)) _ (c .before .before .before .before .before .before .before .before .before .attempt .ensures) _ (c .before .before .finish .ensures)
+returns c = instruction-stepped (c .before .before .before .before .before .before .before .before .before .before .before .before .before .before .before .args .r .now) (c .before .before .before .before .before .before .before .before .before .before .before .before .before .before .before .args .q .now) _ _ _ (journaled (c .before .before .before .before .before .before .before .before .before .before .before .before .before .before .before .args .m .now) (c .before .before .before .before .before .before .before .before .before .before .before .before .before .before .before .args .journal .now)) _ (c .before .before .before .before .before .before .before .before .attempt .ensures) _ (c .before .before .finish .ensures _)
 
 pub instruction-step-spec : {M : Type 1} → statement M
 instruction-step-spec =
