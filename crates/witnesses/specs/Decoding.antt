@@ -84,7 +84,7 @@ fiveAs r p s d = Dyadic (record { row = r; wide = Five; prefix = p; source = s; 
 
 unfoldable pub decodings : List Bool
 decodings =
-    -- a decoder saying "illegal" always: NOP
+    -- a decoder saying illegal always: NOP
     is (answerNumber (decoded (0x2C02 ∷ []))) instructionFound illegal
     -- SUB3 and OR3 in each other's place of Table 1-18
     ∷ is (opcodeIn (decoded (0xB0FD ∷ 1 ∷ 4 ∷ []))) 0x30 0x31
