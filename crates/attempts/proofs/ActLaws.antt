@@ -7,10 +7,6 @@ use native.Mathlib.Omega.{arith}
 use borrow.Author.Tests.{lt-ltb, ne-eqb}
 use Rattle.isa.specs.declared.MonadicMode.{MonadicMode}
 use Rattle.isa.specs.declared.Instruction.{Instruction}
-use Rattle.isa.specs.declared.Instruction.the-variants as instruction
-use Rattle.isa.specs.declared.ShortInstruction.{ShortInstruction}
-use Rattle.isa.specs.declared.DyadicInstruction.{DyadicInstruction}
-use Rattle.isa.specs.declared.MonadicInstruction.{MonadicInstruction}
 use Rattle.laws.proofs.Cases.{and-left, and-right}
 use Rattle.memory.specs.Answers.{answerOf}
 use Rattle.memory.proofs.AnswerLaws.{answer-high, answer-got}
@@ -25,10 +21,10 @@ use Rattle.access.specs.Code.{ended}
 use Rattle.access.proofs.Bind.{bind}
 use Rattle.exec.specs.declared.Monadic.{Monadic}
 use Rattle.exec.specs.Frames.{unimplementedSequence}
-use Rattle.exec.specs.Execute.{Normal, oneOperand, shortNormal, monadicOf, normal, Traced, traced, execute}
-use Rattle.rows.specs.declared.ShortForm.{ShortForm}
-use Rattle.rows.specs.declared.ShortForm.the-variants.{One}
-use Rattle.rows.specs.Rows.{formed}
+use Rattle.exec.specs.Execute.{oneOperand, normal, Traced, traced, execute}
+use Rattle.rows.specs.declared.Action.{Action}
+use Rattle.rows.specs.declared.Action.the-variants.{One}
+use Rattle.rows.specs.Rows.{actionOf}
 use Rattle.pending.specs.Traces.{tracedFrom}
 use Rattle.step.specs.Step.{meets, vectored, finished, sequenced, act}
 use Rattle.run.specs.Run.{Tried, tried, isKcall, tryActed}
@@ -63,21 +59,9 @@ renamed-twice {A = A} {B = B} {C = C} p f g t =
 -- ---- an instruction
 
 -- whether it is a KCALL
-pub kcall-form : (f : ShortForm) (o : Monadic) (k : MonadicMode) (z : Bool) → f ≡ One o k → ((l : MonadicMode) (v : ℕ) → z ≡ isKcall (oneOperand o l v))
-    → (s d : ℕ) → z ≡ isKcall (formed f s d)
-kcall-form f o k z h e s d = rw h (e k s)
-
-pub kcall-short : (i : Instruction) (j : ShortInstruction) (z : Bool) (f : ShortForm) → i ≡ instruction.Short j → formed f ≡ shortNormal (j .row)
-    → ((s d : ℕ) → z ≡ isKcall (formed f s d)) → z ≡ isKcall (normal i)
-kcall-short i j z f h e k =
-    k (j .source) (j .destination) ∙ ap (λ (l : ℕ → ℕ → Normal). isKcall (l (j .source) (j .destination))) e ∙ ap (λ (l : Instruction). isKcall (normal l)) (sym h)
-
-pub kcall-dyadic : (i : Instruction) (j : DyadicInstruction) → i ≡ instruction.Dyadic j → false ≡ isKcall (normal i)
-kcall-dyadic i j h = rw h
-
-pub kcall-monadic : (i : Instruction) (j : MonadicInstruction) (z : Bool) (o : Monadic) → i ≡ instruction.Monadic j → o ≡ monadicOf (j .row)
-    → ((k : MonadicMode) (v : ℕ) → z ≡ isKcall (oneOperand o k v)) → z ≡ isKcall (normal i)
-kcall-monadic i j z o h e k = k (j .mode) (j .value) ∙ rw (h, e)
+pub kcall-one : (a : Action) (o : Monadic) (k : MonadicMode) (v : ℕ) (z : Bool) → a ≡ One o k v → ((l : MonadicMode) (w : ℕ) → z ≡ isKcall (oneOperand o l w))
+    → z ≡ isKcall (actionOf a)
+kcall-one a o k v z h e = rw h (e k v)
 
 -- what tracing makes of it, as a number below 3
 pub classed-low : (k : ℕ) (c : Traced) → tracedFrom k ≡ c → k < 2 → (tracedFrom k ≡ c) × (k < 3)

@@ -2,6 +2,7 @@
 use crate::execute::execute;
 use access::text::fetch_text;
 use decoder::decode_text;
+use encoder::length_of;
 use exec::Monadic;
 use frames::sequences::unimplemented_sequence;
 use isa::Answer;
@@ -9,9 +10,8 @@ use isa::Instruction;
 use memory::answers::low32;
 use memory::answers::raised;
 use pending::tracing::traced;
-use rows::ShortForm;
-use rows::forms::monadic_of;
-use rows::forms::short_form;
+use rows::Action;
+use rows::forms::action_of;
 ghost use mathlib.Core.Path.{_≡_};
 ghost use Prim.Native.Nat.{ℕ, _<_};
 ghost use Rattle.isa.specs.declared.MonadicMode.{MonadicMode};
@@ -21,9 +21,9 @@ ghost use Rattle.program.specs.Program.{interpret};
 ghost use Rattle.program.specs.Journal.{journaled, logging};
 ghost use Rattle.machine.specs.Status.{cpu};
 ghost use Rattle.access.specs.Parts.{onward};
-ghost use Rattle.rows.specs.Rows.{formed};
+ghost use Rattle.rows.specs.Rows.{actionOf};
 ghost use Rattle.pending.specs.Traces.{tracedFrom};
-ghost use Rattle.exec.specs.Execute.{oneOperand, normal, traced as tracedOf};
+ghost use Rattle.exec.specs.Execute.{oneOperand, traced as tracedOf};
 ghost use Rattle.step.specs.Step.{meets, vectored, met};
 ghost use Rattle.run.specs.Run.{isKcall};
 ghost use Rattle.attempts.specs.Code.{actOf, attemptOf, triedOut};
@@ -46,37 +46,21 @@ fn kcalls(o: Monadic) -> bool
     }
 }
 
-fn form_kcalls(form: ShortForm) -> bool
-    ensures { λ x. ⌜ ((s d : ℕ) → x ≡ isKcall (formed form s d)) ⌝ }
+fn is_kcall(a: Action) -> bool
+    ensures { λ x. ⌜ x ≡ isKcall (actionOf a) ⌝ }
 {
-    match form {
-        ShortForm::Two(_, _, _) => false,
-        ShortForm::One(o, _) => kcalls(o),
-        ShortForm::Zero(_) => false,
-    }
-}
-
-fn is_kcall(i: Instruction) -> bool
-    ensures { λ x. ⌜ x ≡ isKcall (normal i) ⌝ }
-{
-    match i {
-        Instruction::Short(j) => {
-            let row = j.row;
-            form_kcalls(short_form(row))
-        }
-        Instruction::Dyadic(_) => false,
-        Instruction::Monadic(j) => {
-            let row = j.row;
-            kcalls(monadic_of(row))
-        }
+    match a {
+        Action::Two(_, _, _, _) => false,
+        Action::One(o, _, _) => kcalls(o),
+        Action::Zero(_) => false,
     }
 }
 
 // What tracing makes of an instruction, as a number below 3.
-fn class_of(i: Instruction) -> u64
-    ensures { λ x. ⌜ (tracedFrom x ≡ tracedOf (normal i)) × (x < 3) ⌝ }
+fn class_of(a: Action) -> u64
+    ensures { λ x. ⌜ (tracedFrom x ≡ tracedOf (actionOf a)) × (x < 3) ⌝ }
 {
-    let k = traced(i);
+    let k = traced(a);
     if k < 2 { k as u64 } else { 2 }
 }
 
@@ -91,12 +75,14 @@ fn act_on(
 ) -> u64
     ensures { λ x. ⌜ gave (triedOut (answerOf x) (now (r .exit)) (now (q .exit))) (journaled (now (m .exit)) (now (journal .exit))) ≡ interpret logging (actOf confined (cpu (now (r .entry)) (now (q .entry))) (meets i)) (journaled (now (m .entry)) (now (journal .entry))) ⌝ }
 {
-    let class = class_of(i);
-    let stops = confined & is_kcall(i);
+    let a = action_of(i);
+    let n = length_of(i);
+    let class = class_of(a);
+    let stops = confined & is_kcall(a);
     if stops {
         return 0x20;
     }
-    let x = execute(m, journal, q, r, i);
+    let x = execute(m, journal, q, r, n, a);
     if 0x1_0000_0000 <= x {
         return x;
     }

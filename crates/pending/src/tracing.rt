@@ -2,15 +2,11 @@
 use bits::bit;
 use exec::Monadic;
 use exec::Niladic;
-use isa::Instruction;
-use rows::ShortForm;
-use rows::forms::monadic_of;
-use rows::forms::short_form;
+use rows::Action;
 ghost use mathlib.Core.Path.{_≡_};
-ghost use Prim.Native.Nat.{ℕ};
-ghost use Rattle.exec.specs.Execute.{normal, monadicTraced, niladicTraced, traced as tracedOf};
+ghost use Rattle.exec.specs.Execute.{monadicTraced, niladicTraced, traced as tracedOf};
 ghost use Rattle.step.specs.Step.{tracesAt};
-ghost use Rattle.rows.specs.Rows.{formed};
+ghost use Rattle.rows.specs.Rows.{actionOf};
 ghost use Rattle.pending.specs.Traces.{tracedFrom};
 
 // Traced by PSW bit 7; by bit 7 or 8, since it may jump; never.
@@ -51,31 +47,14 @@ fn niladic_traced(o: Niladic) -> u32
     }
 }
 
-// One parcel, whatever its operands.
-fn form_traced(f: ShortForm) -> u32
-    ensures { λ r. ⌜ ((s d : ℕ) → tracedFrom r ≡ tracedOf (formed f s d)) ⌝ }
+// An instruction by what it does.
+pub fn traced(a: Action) -> u32
+    ensures { λ r. ⌜ tracedFrom r ≡ tracedOf (actionOf a) ⌝ }
 {
-    match f {
-        ShortForm::Two(_, _, _) => ALWAYS,
-        ShortForm::One(o, _) => monadic_traced(o),
-        ShortForm::Zero(o) => niladic_traced(o),
-    }
-}
-
-// An instruction.
-pub fn traced(i: Instruction) -> u32
-    ensures { λ r. ⌜ tracedFrom r ≡ tracedOf (normal i) ⌝ }
-{
-    match i {
-        Instruction::Short(s) => {
-            let row = s.row;
-            form_traced(short_form(row))
-        }
-        Instruction::Dyadic(_) => ALWAYS,
-        Instruction::Monadic(m) => {
-            let row = m.row;
-            monadic_traced(monadic_of(row))
-        }
+    match a {
+        Action::Two(_, _, _, _) => ALWAYS,
+        Action::One(o, _, _) => monadic_traced(o),
+        Action::Zero(o) => niladic_traced(o),
     }
 }
 

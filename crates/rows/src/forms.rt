@@ -1,4 +1,5 @@
 // What each row does, without its encoding.
+use crate::Action;
 use crate::ShortForm;
 use exec::Monadic;
 use exec::Niladic;
@@ -6,13 +7,16 @@ use exec::Operation;
 use exec::Relation;
 use exec::Task;
 use isa::DyadicRow;
+use isa::Instruction;
 use isa::Mode;
 use isa::MonadicMode;
 use isa::MonadicRow;
+use isa::Operand;
 use isa::ShortRow;
+use isa::Wide;
 ghost use mathlib.Core.Path.{_≡_};
-ghost use Rattle.exec.specs.Execute.{shortNormal, taskOf, monadicOf};
-ghost use Rattle.rows.specs.Rows.{formed};
+ghost use Rattle.exec.specs.Execute.{shortNormal, taskOf, monadicOf, normal};
+ghost use Rattle.rows.specs.Rows.{formed, actionOf};
 
 // What a one-parcel row does.
 pub fn short_form(row: ShortRow) -> ShortForm
@@ -175,5 +179,45 @@ pub fn monadic_of(row: MonadicRow) -> Monadic
         MonadicRow::Flushpte => Monadic::Flush,
         MonadicRow::Flushpbe => Monadic::Flush,
         MonadicRow::Popn => Monadic::Popn,
+    }
+}
+
+// A one-parcel row with source s and destination d.
+fn short_action(form: ShortForm, s: u32, d: u32) -> Action
+    ensures { λ r. ⌜ actionOf r ≡ formed form s d ⌝ }
+{
+    match form {
+        ShortForm::Two(task, a, b) => Action::Two(
+            Wide::Five,
+            task,
+            Operand::General(a, s),
+            Operand::General(b, d),
+        ),
+        ShortForm::One(o, mode) => Action::One(o, mode, s),
+        ShortForm::Zero(o) => Action::Zero(o),
+    }
+}
+
+// What an instruction does.
+pub fn action_of(i: Instruction) -> Action
+    ensures { λ r. ⌜ actionOf r ≡ normal i ⌝ }
+{
+    match i {
+        Instruction::Short(j) => {
+            let row = j.row;
+            short_action(short_form(row), j.source, j.destination)
+        }
+        Instruction::Dyadic(j) => {
+            let row = j.row;
+            let wide = j.wide;
+            let s = j.source;
+            let d = j.destination;
+            Action::Two(wide, task_of(row), s, d)
+        }
+        Instruction::Monadic(j) => {
+            let row = j.row;
+            let mode = j.mode;
+            Action::One(monadic_of(row), mode, j.value)
+        }
     }
 }
