@@ -3,11 +3,11 @@
 use Prim.Native.Nat.{ℕ, _+_, _*_, _/_, _%_, _^_, _<_, _≤_}
 use mathlib.Core.Path.{_≡_, refl, sym, ap, _∙_}
 use mathlib.Core.Bool.{Bool, true, false}
-use native.Mathlib.Nat.{mod-eq-of-lt}
+use native.Mathlib.Nat.{add-zero, mod-eq-of-lt}
 use lib.ListN.{getD, set}
 use borrow.Author.Tests.{lt-ltb, le-ltb}
-use Rattle.memory.specs.Answers.{Answer, answerOf}
-use Rattle.memory.specs.Bytes.{Memory, number, load, Effect, done, storeOf}
+use Rattle.memory.specs.Answers.{answerOf}
+use Rattle.memory.specs.Bytes.{Memory, number, load}
 use Rattle.memory.proofs.AnswerLaws.{load-held, load-inside, load-outside}
 use Rattle.mmu.specs.declared.Kind.{Kind}
 use Rattle.mmu.specs.Walk.{fresh, recorded}
@@ -43,6 +43,8 @@ module _ (k : Kind) (p : ℕ) (m : Memory) (j : Journal) where
   entry-old b e t = rw (sym e ∙ t) refl
 
 -- an entry's word put back by a store
-pub word-restored : (m : Memory) (e : ℕ) (x : Answer) (n : Memory) → done x n ≡ storeOf 4 m (e / 2 ^ 32) (e % 2 ^ 32) → n ≡ restored m e
-unfolding restored storeOf
-word-restored m e x n d = ap (λ (y : Effect). y .memory) d
+pub word-restored : (m : Memory) (e a w : ℕ) (m1 m2 m3 m4 : Memory) → a ≡ e / 2 ^ 32 → w ≡ e % 2 ^ 32
+    → m1 ≡ set m a (w / 256 / 256 / 256 % 256) → m2 ≡ set m1 (a + 1) (w / 256 / 256 % 256) → m3 ≡ set m2 (a + 2) (w / 256 % 256)
+    → m4 ≡ set m3 (a + 3) (w % 256) → m4 ≡ restored m e
+unfolding restored
+word-restored m e a w m1 m2 m3 m4 ea ew f1 f2 f3 f4 = rw (f4, f3, f2, f1, ea, ew) (rw add-zero)

@@ -1,6 +1,5 @@
 // The journal of a step, in one lent array: the number of entries, then each as its place times 2^32 and the word of before.
 use memory::loads::load_word;
-use memory::stores::store_word;
 use mmu::Kind;
 ghost use mathlib.Core.Path.{_≡_};
 ghost use Prim.Native.Nat.{min};
@@ -40,11 +39,25 @@ pub fn begin(journal: &mut [u64; 201])
     journal[0] = 0;
 }
 
-// An entry's word put back.
+// A byte put back; one outside memory is not.
+fn put_byte(m: &mut [u8], i: usize, b: u8)
+    ensures { λ r. ⌜ now (m .exit) ≡ set (now (m .entry)) i b ⌝ }
+{
+    if i < m.len() {
+        m[i] = b;
+    }
+}
+
+// An entry's word put back, byte by byte: with one test for the word the compiler keeps less of a run in registers.
 fn restore(m: &mut [u8], e: u64)
     ensures { λ r. ⌜ now (m .exit) ≡ restored (now (m .entry)) e ⌝ }
 {
-    store_word(m, (e / 0x1_0000_0000) as u32, (e % 0x1_0000_0000) as u32);
+    let a = (e / 0x1_0000_0000) as usize;
+    let w = (e % 0x1_0000_0000) as u32;
+    put_byte(m, a, (w / 256 / 256 / 256 % 256) as u8);
+    put_byte(m, a + 1, (w / 256 / 256 % 256) as u8);
+    put_byte(m, a + 2, (w / 256 % 256) as u8);
+    put_byte(m, a + 3, (w % 256) as u8);
 }
 
 // The number of entries.

@@ -10,7 +10,7 @@ use native.Mathlib.Decide.{ℕ-discrete, decLt}
 use lib.ListN.{getD, set, length, length-set}
 use lib.Seq.{getD-set-same, getD-set-other, ext-getD}
 use borrow.Author.Tests.{lt-ltb, leb-true}
-use Rattle.memory.specs.Bytes.{Memory, byteAt, number, stored, holds, storeMemory}
+use Rattle.memory.specs.Bytes.{Memory, byteAt, number, stored, holds}
 use Rattle.memory.proofs.Laws.{length-stored, byte-other}
 use Rattle.program.specs.Journal.{Journal, room, count, entry, note, restored, undone, undo}
 use Rattle.program.proofs.Bytes.{Bytes, number-lt}
@@ -43,9 +43,9 @@ entry-place a w h = omega arith
 entry-word : (a w : ℕ) → w < 2 ^ 32 → entry a w % 2 ^ 32 ≡ w
 entry-word a w h = omega arith
 
-restored-entry : (n : Memory) (a w : ℕ) → w < 2 ^ 32 → holds n a 4 ≡ true → restored n (entry a w) ≡ stored 4 n a w
-unfolding restored storeMemory
-restored-entry n a w h f = rw (entry-place a w h, entry-word a w h, f) refl
+restored-entry : (n : Memory) (a w : ℕ) → w < 2 ^ 32 → restored n (entry a w) ≡ stored 4 n a w
+unfolding restored
+restored-entry n a w h = rw (entry-place a w h, entry-word a w h) refl
 
 -- a change in the four bytes of an entry is put back
 module _ (m : Memory) (a : ℕ) (n : Memory) (b : Bytes m) (f : holds m a 4 ≡ true) (r : Near m a n) where
@@ -59,7 +59,7 @@ module _ (m : Memory) (a : ℕ) (n : Memory) (b : Bytes m) (f : holds m a 4 ≡ 
 
   restored-near : restored n (entry a (number 4 m a)) ≡ m
   restored-near =
-      restored-entry n a (number 4 m a) (number-lt 4 m a b) (rw (r .length) f)
+      restored-entry n a (number 4 m a) (number-lt 4 m a b)
       ∙ ext-getD 0 (stored 4 n a (number 4 m a)) m (length-stored 4 n a (number 4 m a) ∙ r .length) (λ x h. same-byte x (decLt x a) (decLt x (a + 4)))
 
 -- a journal of its size

@@ -6,7 +6,7 @@ use mathlib.Core.List.{List}
 use lib.ListN.{getD, set}
 use lib.Dec.{ltb}
 use Rattle.word.specs.Widths.{bytesOf}
-use Rattle.memory.specs.Bytes.{Memory, number, holds, storeMemory}
+use Rattle.memory.specs.Bytes.{Memory, number, stored, holds}
 use Rattle.mmu.specs.declared.Kind.{Kind}
 use Rattle.mmu.specs.declared.Walk.{Walk}
 use Rattle.mmu.specs.declared.Walk.the-variants.{Fault, Direct, Paged}
@@ -32,9 +32,9 @@ unfoldable pub note : ℕ → Memory → Journal → Journal
 note a m j =
     cond (ltb (count j) room && holds m a 4) (set (set j (count j + 1) (entry a (number 4 m a))) 0 (count j + 1)) j
 
--- an entry's word put back
+-- an entry's word put back, each byte where memory has it
 unfoldable pub restored : Memory → ℕ → Memory
-restored m e = storeMemory 4 m (e / 2 ^ 32) (e % 2 ^ 32)
+restored m e = stored 4 m (e / 2 ^ 32) (e % 2 ^ 32)
 
 -- the first n entries put back, the last one first
 unfoldable pub undone : ℕ → Journal → Memory → Memory
