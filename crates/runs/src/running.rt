@@ -12,6 +12,7 @@ use run::Stopped;
 ghost use mathlib.Core.Path.{_≡_};
 ghost use Prim.Native.Nat.{_%_};
 ghost use lib.ListN.{length};
+ghost use Rattle.machine.specs.Cache.{Cache};
 ghost use Rattle.machine.specs.Status.{cpu};
 ghost use Rattle.machine.specs.Record.{cpuOf};
 ghost use Rattle.run.specs.Run.{board, turnOf, advance as advanceOf, refusal as refusalOf, run as runOf};
@@ -65,8 +66,8 @@ fn advance(
 }
 
 // The refusals 1, 2, 3 and 9 in this order; 0 is none.
-fn refusal(m: &[u8], r: &[u32; 17], q: &[[u32; 4]; 16], confined: bool, level: u32) -> u32
-    ensures { λ x. ⌜ x ≡ refusalOf confined level (board (cpu (now (r .entry)) (now (q .entry))) (now (m .entry))) ⌝ }
+fn refusal(m: &[u8], r: &[u32; 17], confined: bool, level: u32) -> u32
+    ensures { λ x. ⌜ ((q : Cache) → x ≡ refusalOf confined level (board (cpu (now (r .entry)) q) (now (m .entry)))) ⌝ }
 {
     if !whole_pages(m.len()) {
         1
@@ -98,7 +99,7 @@ pub fn run_lent(
 ) -> Stopped
     ensures { λ x. ⌜ stoppedAt x (board (cpu (now (r .exit)) (now (q .exit))) (now (m .exit))) ≡ runOf confined budget level (board (cpu (now (r .entry)) (now (q .entry))) (now (m .entry))) ⌝ }
 {
-    let e = refusal(m, r, q, confined, level);
+    let e = refusal(m, r, confined, level);
     if e != 0 {
         return Stopped {
             steps: 0,

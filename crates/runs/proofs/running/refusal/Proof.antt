@@ -16,19 +16,19 @@ is-virtual-requires : tie.Need-is-virtual-requires
 is-virtual-requires c κs = search needs
 
 returns : tie.Need-returns
-returns c = refuses-board (c .before .before .before .args .confined) (c .before .before .before .args .level) (c .before .before .before .args .r .now) (c .before .before .before .args .q .now) (c .before .before .before .args .m .now) _ (c .before .whole-pages .ensures) (c .if1 .taken)
+returns c = λ q. refuses-board (c .before .before .before .args .confined) (c .before .before .before .args .level) (c .before .before .before .args .r .now) q (c .before .before .before .args .m .now) _ (c .before .whole-pages .ensures) (c .if1 .taken)
 
 returns-2 : tie.Need-returns-2
-returns-2 c = refuses-register (c .before .before .before .before .before .args .confined) (c .before .before .before .before .before .args .level) (c .before .before .before .before .before .args .r .now) (c .before .before .before .before .before .args .q .now) (c .before .before .before .before .before .args .m .now) _ (c .before .before .before .whole-pages .ensures) (c .before .before .if1 .left) _ (c .before .good-bank .ensures) (c .if2 .taken)
+returns-2 c = λ q. refuses-register (c .before .before .before .before .before .args .confined) (c .before .before .before .before .before .args .level) (c .before .before .before .before .before .args .r .now) q (c .before .before .before .before .before .args .m .now) _ (c .before .before .before .whole-pages .ensures) (c .before .before .if1 .left) _ (c .before .good-bank .ensures) (c .if2 .taken)
 
 returns-3 : tie.Need-returns-3
-returns-3 c = refuses-level (c .before .before .before .before .before .before .args .confined) (c .before .before .before .before .before .before .args .level) (c .before .before .before .before .before .before .args .r .now) (c .before .before .before .before .before .before .args .q .now) (c .before .before .before .before .before .before .args .m .now) _ (c .before .before .before .before .whole-pages .ensures) (c .before .before .before .if1 .left) _ (c .before .before .good-bank .ensures) (c .before .if2 .left) (c .if3 .taken)
+returns-3 c = λ q. refuses-level (c .before .before .before .before .before .before .args .confined) (c .before .before .before .before .before .before .args .level) (c .before .before .before .before .before .before .args .r .now) q (c .before .before .before .before .before .before .args .m .now) _ (c .before .before .before .before .whole-pages .ensures) (c .before .before .before .if1 .left) _ (c .before .before .good-bank .ensures) (c .before .if2 .left) (c .if3 .taken)
 
 returns-4 : tie.Need-returns-4
-returns-4 c = refuses-confined (c .before .before .before .before .before .before .before .before .before .args .confined) (c .before .before .before .before .before .before .before .before .before .args .level) (c .before .before .before .before .before .before .before .before .before .args .r .now) (c .before .before .before .before .before .before .before .before .before .args .q .now) (c .before .before .before .before .before .before .before .before .before .args .m .now) _ (c .before .before .before .before .before .before .before .whole-pages .ensures) (c .before .before .before .before .before .before .if1 .left) _ (c .before .before .before .before .before .good-bank .ensures) (c .before .before .before .before .if2 .left) (c .before .before .before .if3 .left) _ _ (c .before .before .is-user .ensures) (c .before .is-virtual .ensures) (c .if4 .taken)
+returns-4 c = λ q. refuses-confined (c .before .before .before .before .before .before .before .before .before .args .confined) (c .before .before .before .before .before .before .before .before .before .args .level) (c .before .before .before .before .before .before .before .before .before .args .r .now) q (c .before .before .before .before .before .before .before .before .before .args .m .now) _ (c .before .before .before .before .before .before .before .whole-pages .ensures) (c .before .before .before .before .before .before .if1 .left) _ (c .before .before .before .before .before .good-bank .ensures) (c .before .before .before .before .if2 .left) (c .before .before .before .if3 .left) _ _ (c .before .before .is-user .ensures) (c .before .is-virtual .ensures) (c .if4 .taken)
 
 returns-5 : tie.Need-returns-5
-returns-5 c = refuses-nothing (c .before .before .before .before .before .before .before .before .before .args .confined) (c .before .before .before .before .before .before .before .before .before .args .level) (c .before .before .before .before .before .before .before .before .before .args .r .now) (c .before .before .before .before .before .before .before .before .before .args .q .now) (c .before .before .before .before .before .before .before .before .before .args .m .now) _ (c .before .before .before .before .before .before .before .whole-pages .ensures) (c .before .before .before .before .before .before .if1 .left) _ (c .before .before .before .before .before .good-bank .ensures) (c .before .before .before .before .if2 .left) (c .before .before .before .if3 .left) _ _ (c .before .before .is-user .ensures) (c .before .is-virtual .ensures) (c .if4 .left)
+returns-5 c = λ q. refuses-nothing (c .before .before .before .before .before .before .before .before .before .args .confined) (c .before .before .before .before .before .before .before .before .before .args .level) (c .before .before .before .before .before .before .before .before .before .args .r .now) q (c .before .before .before .before .before .before .before .before .before .args .m .now) _ (c .before .before .before .before .before .before .before .whole-pages .ensures) (c .before .before .before .before .before .before .if1 .left) _ (c .before .before .before .before .before .good-bank .ensures) (c .before .before .before .before .if2 .left) (c .before .before .before .if3 .left) _ _ (c .before .before .is-user .ensures) (c .before .is-virtual .ensures) (c .if4 .left)
 
 pub refusal-spec : {M : Type 1} → statement M
 refusal-spec =
