@@ -38,9 +38,9 @@ use Rattle.exec.specs.Execute.{oneOperand, executeMonadic}
 use Rattle.step.specs.Step.{holdsStack}
 use Rattle.run.specs.Run.{isKcall}
 use Rattle.bounds.proofs.Held.{holds-with}
-use Rattle.quick.specs.Quick.{gives, isRelative}
-use Rattle.quick.proofs.GiveLaws.{gives-then, gives-done, set-same}
-use Rattle.quick.proofs.NearLaws.{word-written}
+use Rattle.quick_dyadic.specs.Quick.{gives, isRelative}
+use Rattle.quick_dyadic.proofs.GiveLaws.{gives-then, gives-done, set-same}
+use Rattle.quick_dyadic.proofs.NearLaws.{word-written}
 
 relative-is : (m : MonadicMode) → isRelative m ≡ true → m ≡ FlowRelative
 relative-is WordAbsolute h = cc

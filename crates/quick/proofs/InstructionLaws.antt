@@ -33,9 +33,9 @@ use Rattle.plans.specs.declared.Plan.{Plan}
 use Rattle.plans.specs.declared.Plan.the-variants.{Two, One}
 use Rattle.plans.specs.Plans.{planOf, isPlan, normalOf}
 use Rattle.plans.proofs.AnswerLaws.{Does, Long, answer-does}
-use Rattle.quick.specs.Quick.{gives}
+use Rattle.quick_dyadic.specs.Quick.{gives}
 use Rattle.quick.specs.Performed.{parcelAt, textAt, lengthAt, Went, Executed, Performed}
-use Rattle.quick.proofs.GiveLaws.{gives-then}
+use Rattle.quick_dyadic.proofs.GiveLaws.{gives-then}
 use Rattle.quick.proofs.TextLaws.{text-quiet, text-long}
 
 -- ---- by the plan

@@ -1,10 +1,4 @@
-pub mod AccessLaws
 pub mod FlowLaws
-pub mod GiveLaws
 pub mod InstructionLaws
-pub mod NearLaws
-pub mod PlaceLaws
-pub mod RestLaws
 pub mod TextLaws
 pub mod TurnLaws
-pub mod TwoLaws

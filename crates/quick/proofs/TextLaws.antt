@@ -29,10 +29,10 @@ use Rattle.decoder.specs.Forms.{formOf, afterOf}
 use Rattle.plans.specs.declared.Plan.{Plan}
 use Rattle.plans.specs.Plans.{planOf}
 use Rattle.plans.proofs.AnswerLaws.{Long, short-long, wide-long}
-use Rattle.quick.specs.Quick.{gives}
+use Rattle.quick_dyadic.specs.Quick.{gives}
 use Rattle.quick.specs.Performed.{parcelAt, parcelsFrom, textAt, lengthAt}
-use Rattle.quick.proofs.GiveLaws.{gives-then, gives-done}
-use Rattle.quick.proofs.AccessLaws.{regime-is}
+use Rattle.quick_dyadic.proofs.GiveLaws.{gives-then, gives-done}
+use Rattle.quick_dyadic.proofs.AccessLaws.{regime-is}
 
 pub quiet-here : (b : Bank) (s : ℕ) (u t : Bool) → u ≡ isUser b → t ≡ isVirtual b → s ≡ word b stb → (a : ℕ) (m : Memory) (x : ℕ) → Quiet (regimeFor s u t) Fetch a m x → Quiet (regime b) Fetch a m x
 quiet-here b s u t eu et es a m x k = subst (λ g. Quiet g Fetch a m x) (regime-is b s u t eu et es) k

@@ -20,9 +20,9 @@ use Rattle.step.specs.Step.{meets, Acted, finished, fetchInstruction, act, atte
 use Rattle.run.specs.Run.{board, goes, unlessLost, afterStep, turn, Tried, tried, tryActed, confinedAttempt, tryTurn, confinedFor, confinedTurn, turnOf}
 use Rattle.pending.specs.Dues.{dueFrom}
 use Rattle.pending.proofs.Laws.{due-known}
-use Rattle.quick.specs.Quick.{gives}
+use Rattle.quick_dyadic.specs.Quick.{gives}
 use Rattle.quick.specs.Performed.{Performed, Calm}
-use Rattle.quick.proofs.GiveLaws.{gives-then, gives-done, not-both, set-same}
+use Rattle.quick_dyadic.proofs.GiveLaws.{gives-then, gives-done, not-both, set-same}
 
 -- ---- the look
 

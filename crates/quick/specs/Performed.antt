@@ -21,7 +21,7 @@ use Rattle.step.specs.Step.{meets, fetchInstruction, holdsStack}
 use Rattle.run.specs.Run.{isKcall}
 use Rattle.plans.specs.declared.Plan.{Plan}
 use Rattle.plans.specs.Plans.{isPlan, normalOf}
-use Rattle.quick.specs.Quick.{gives}
+use Rattle.quick_dyadic.specs.Quick.{gives}
 
 abbrev pub parcelAt : Memory → ℕ → ℕ
 parcelAt m k = number 2 m k % 2 ^ 16

@@ -1,5 +1,4 @@
 // Jumps, and calls, returns, ENTER and CATCH that move no word between cache and memory.
-use crate::accesses::quiet_read;
 use access::data::check_store;
 use bank::flow::advanced;
 use bank::flow::jumped;
@@ -16,6 +15,7 @@ use machine::registers::stack_held;
 use machine::status::cache_on;
 use machine::status::cached;
 use memory::answers::low32;
+use quick_dyadic::accesses::quiet_read;
 use tables::legal::is_stack;
 use word::Width;
 use word::sums::minus;
@@ -30,7 +30,7 @@ ghost use Rattle.exec.specs.Stack.{enter as enterOf, catch as catchOf};
 ghost use Rattle.exec.specs.Execute.{oneOperand, executeMonadic};
 ghost use Rattle.step.specs.Step.{holdsStack};
 ghost use Rattle.run.specs.Run.{isKcall};
-ghost use Rattle.quick.specs.Quick.{gives, isRelative};
+ghost use Rattle.quick_dyadic.specs.Quick.{gives, isRelative};
 
 fn is_relative(m: MonadicMode) -> bool
     ensures { λ x. ⌜ x ≡ isRelative m ⌝ }

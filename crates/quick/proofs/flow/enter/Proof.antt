@@ -1,5 +1,5 @@
 use Rattle.quick.proofs.FlowLaws.{enter-gives}
-use Rattle.quick.proofs.GiveLaws.{not-both}
+use Rattle.quick_dyadic.proofs.GiveLaws.{not-both}
 use mathlib.Core.Path.{refl, sym, ap}
 use Prim.Native.Nat.{ℕ, _*_, _/_}
 use borrow.Author.Needs.{needs}

@@ -1,0 +1,104 @@
+-- Data accesses that neither fault nor set a bit.
+-- Assumes nothing.
+use Prim.Native.Nat.{ℕ, _%_, _^_, _<_, _≤_}
+use mathlib.Core.Path.{_≡_, refl, sym, ap, subst, _∙_}
+use mathlib.Core.Bool.{Bool, true, false, cond}
+use native.Mathlib.Omega.{arith}
+use borrow.Author.Tests.{eq-eqb}
+use Rattle.word.specs.declared.Width.{Width}
+use Rattle.word.specs.declared.Width.the-variants.{Byte, Half, Word}
+use Rattle.word.specs.Widths.{bytesOf}
+use Rattle.memory.specs.Answers.{Answer, got, bad, answerOf}
+use Rattle.memory.specs.Bytes.{Memory, placeOf, holds, stored, load, storeAnswer, storeMemory, Effect, done as stored-with, storeOf}
+use Rattle.memory.proofs.AnswerLaws.{answer-got, answer-high}
+use Rattle.mmu.specs.declared.Kind.the-variants.{Read, Write}
+use Rattle.program.specs.Access.{Access, read, write, gave, access}
+use Rattle.program.specs.Program.{interpret}
+use Rattle.machine.specs.Registers.{Bank, word, stb}
+use Rattle.machine.specs.Cache.{Cache, cacheRead, cacheWrite}
+use Rattle.machine.specs.Status.{Cpu, cpu, cached, isLittle, isUser, isVirtual, regime}
+use Rattle.handler.specs.Followed.{regimeFor, fitsWidth}
+use Rattle.handler.specs.Quiet.{Quiet}
+use Rattle.handler.proofs.QuietLaws.{read-quiet, write-quiet}
+use Rattle.access.specs.Parts.{ok, done, request}
+use Rattle.access.specs.Data.{isAligned, readCached, readMemory, readData, writeCached, writeMemory, writeData}
+use Rattle.quick_dyadic.specs.Quick.{gives}
+use Rattle.quick_dyadic.proofs.GiveLaws.{gives-then, gives-done}
+
+-- ---- in memory: x is the place that was found
+
+pub regime-is : (b : Bank) (s : ℕ) (u t : Bool) → u ≡ isUser b → t ≡ isVirtual b → s ≡ word b stb → regimeFor s u t ≡ regime b
+regime-is b s u t eu et es =
+    ap (λ (n : ℕ). regimeFor n u t) es ∙ ap (λ (z : Bool). regimeFor (word b stb) z t) eu ∙ ap (λ (z : Bool). regimeFor (word b stb) (isUser b) z) et
+
+pub far-kept : (w : Width) (m n : Memory) (a v y : ℕ) → stored-with (answerOf y) n ≡ storeOf (bytesOf w) m a v → 2 ^ 32 ≤ y → n ≡ m
+unfolding storeOf storeAnswer storeMemory
+far-kept w m n a v y e l = ap (λ (z : Effect). z .memory) e ∙ go (holds m a (bytesOf w)) (sym (answer-high y l) ∙ ap (λ (z : Effect). z .answer) e)
+  where
+    go : (t : Bool) → bad (y % 2 ^ 32) ≡ cond t (got 0) (bad 0xA) → cond t (stored (bytesOf w) m a v) m ≡ m
+    go true f = let z : _≡_ {A = ℕ} 0 1 = cc in absurd (omega arith)
+    go false f = refl
+
+module _ (b : Bank) (s : ℕ) (u t : Bool) (eu : u ≡ isUser b) (et : t ≡ isVirtual b) (es : s ≡ word b stb) (m : Memory) (w : Width) (p : ℕ) (hp : p < 2 ^ 32) (f : Bool) (ef : f ≡ fitsWidth w p) (hf : f ≡ true) (x : ℕ) (hx : x < 2 ^ 32)
+    (a : ℕ) (ea : a ≡ x % 2 ^ 32) (y : ℕ) (hy : y < 2 ^ 32) where
+  at-place : a ≡ x
+  at-place = let same : x % 2 ^ 32 ≡ x = omega arith in ea ∙ same
+
+  pub far-read : Quiet (regimeFor s u t) Read p m x → answerOf y ≡ load (bytesOf w) m a → access (read (regime b) w p) m ≡ gave (got y) m
+  far-read k e =
+      read-quiet (regime b) m x w p hp (sym ef ∙ hf) (subst (λ g. Quiet g Read p m x) (regime-is b s u t eu et es) k)
+      ∙ ap (λ (z : Answer). gave z m) (ap (λ (n : ℕ). load (bytesOf w) m n) (sym at-place) ∙ sym e ∙ answer-got y hy)
+
+  -- n is the memory after the store, y its answer
+  pub far-stored : Quiet (regimeFor s u t) Write p m x → (v : ℕ) (n : Memory) → stored-with (answerOf y) n ≡ storeOf (bytesOf w) m a v → access (write (regime b) w p v) m ≡ gave (got 0) n
+  unfolding storeOf storeAnswer
+  far-stored k v n e =
+      write-quiet (regime b) m x w p v hp (sym ef ∙ hf) (subst (λ g. Quiet g Write p m x) (regime-is b s u t eu et es) k)
+      ∙ ap (λ (z : ℕ). gave (storeAnswer (bytesOf w) m z) (storeMemory (bytesOf w) m z v)) (sym at-place)
+      ∙ ap (λ (z : Memory). gave (storeAnswer (bytesOf w) m a) z) (sym (ap (λ (z : Effect). z .memory) e))
+      ∙ ap (λ (z : Answer). gave z n) (go (holds m a (bytesOf w)) (sym (answer-got y hy) ∙ ap (λ (z : Effect). z .answer) e))
+    where
+      go : (i : Bool) → got y ≡ cond i (got 0) (bad 0xA) → cond i (got 0) (bad 0xA) ≡ got 0
+      go true j = refl
+      go false j = let z : _≡_ {A = ℕ} 0 1 = cc in absurd (omega arith)
+
+-- a part that is one access
+requested : (c : Cpu) (q : Access) (a : ℕ) (m n : Memory) (x : ℕ) → access q m ≡ gave (got x) n → gives (request c q a) m x n
+unfolding request interpret
+requested c q a m n x e = rw e refl
+
+-- ---- the cache or memory: p is the place of an operand at a
+
+fits-aligned : (w : Width) (a : ℕ) → fitsWidth w a ≡ isAligned w a
+fits-aligned Byte a = sym (eq-eqb (a % 1) 0 (omega arith))
+fits-aligned Half a = refl
+fits-aligned Word a = refl
+
+module _ (b : Bank) (q : Cache) (w : Width) (a : ℕ) (l : Bool) (el : l ≡ isLittle b) (p : ℕ) (ep : p ≡ placeOf l w a) (m : Memory) (f : Bool) (ef : f ≡ cached b a) where
+  place-is : p ≡ placeOf (isLittle b) w a
+  place-is = ep ∙ ap (λ (z : Bool). placeOf z w a) el
+
+  module _ (h : Bool) (eh : h ≡ fitsWidth w a) (fit : h ≡ true) (near : f ≡ true) where
+    pub near-read : (v x : ℕ) → v ≡ cacheRead (bytesOf w) q p → answerOf x ≡ got v → x < 2 ^ 32 → gives (readData (cpu b q) w a) m x m
+    unfolding readData readCached interpret
+    near-read v x ev ex lx = rw (sym ef ∙ near, sym (fits-aligned w a) ∙ sym eh ∙ fit, ← place-is, ← ev) (ap (λ (z : ℕ). gave (ok z) m) same)
+      where
+        same : v ≡ x
+        same = let z : got x ≡ got v = sym (answer-got x lx) ∙ ex in cc
+
+    pub near-stored : (v : ℕ) (s : Cache) → s ≡ cacheWrite (bytesOf w) q p v → gives (writeData (cpu b q) w a v) m (cpu b s) m
+    unfolding writeData writeCached interpret
+    near-stored v s es = rw (sym ef ∙ near, sym (fits-aligned w a) ∙ sym eh ∙ fit, ← place-is, ← es) refl
+
+  module _ (far : f ≡ false) where
+    pub read-far : (x : ℕ) → access (read (regime b) w p) m ≡ gave (got x) m → gives (readData (cpu b q) w a) m x m
+    unfolding readData readMemory request interpret
+    read-far x e = rw (sym ef ∙ far, ← place-is, e) refl
+
+    pub stored-far : (v : ℕ) (n : Memory) → access (write (regime b) w p v) m ≡ gave (got 0) n → gives (writeData (cpu b q) w a v) m (cpu b q) n
+    unfolding writeData writeMemory
+    stored-far v n e =
+        rw (sym ef ∙ far, ← place-is) (gives-then (request (cpu b q) (write (regime b) w p v) a) (λ z. done (cpu b q)) m n n 0 (cpu b q) asked (gives-done (done (cpu b q)) (cpu b q) refl n))
+      where
+        asked : gives (request (cpu b q) (write (regime b) w p v) a) m 0 n
+        asked = requested (cpu b q) (write (regime b) w p v) a m n 0 e

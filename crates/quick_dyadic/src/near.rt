@@ -1,0 +1,151 @@
+// Words of the stack that the cache holds: no access to memory at all.
+use alu::operations::divides;
+use alu::operations::operate;
+use alu::operations::related;
+use alu::results::value_of;
+use bank::flow::stack_address;
+use bank::status::with_flag;
+use bank::status::with_flags;
+use exec::Operation;
+use exec::Relation;
+use exec::Task;
+use isa::Mode;
+use machine::cache::cache_read;
+use machine::cache::cache_write;
+use machine::status::cached;
+use memory::answers::good;
+use memory::answers::low32;
+use operands::places::is_constant;
+use word::Width;
+ghost use mathlib.Core.Path.{_≡_};
+ghost use mathlib.Core.Bool.{true, false};
+ghost use mathlib.Core.List.{[]};
+ghost use Prim.Native.Nat.{ℕ, _%_, _^_, _<_};
+ghost use Rattle.isa.specs.declared.Mode.the-variants as mode;
+ghost use Rattle.isa.specs.declared.Operand.the-variants as operand;
+ghost use Rattle.isa.specs.declared.Wide.{Wide};
+ghost use Rattle.machine.specs.Status.{cpu, cached as cachedOf};
+ghost use Rattle.access.specs.Parts.{done};
+ghost use Rattle.exec.specs.declared.Task.the-variants as task;
+ghost use Rattle.exec.specs.Operands.{stackAddress, readOperand};
+ghost use Rattle.step.specs.Step.{holdsStack};
+ghost use Rattle.quick_dyadic.specs.Quick.{isStackWord, isQuick, rest};
+
+// The address of the word at a stack offset, if the cache holds it; else 2^32.
+pub(crate) fn near_address(r: &[u32; 17], v: u32) -> u64
+    ensures { λ x. ⌜ (x < 2 ^ 32 → (x ≡ stackAddress (cpu (now (r .entry)) []) v) × (cachedOf (now (r .entry)) x ≡ true) × (x % 4 ≡ 0)) ⌝ }
+{
+    let a = stack_address(r, v);
+    if cached(r, a) {
+        if a % 4 == 0 {
+            return a as u64;
+        }
+    }
+    0x1_0000_0000
+}
+
+pub(crate) fn is_stack_word(m: Mode) -> bool
+    ensures { λ x. ⌜ x ≡ isStackWord m ⌝ }
+{
+    match m {
+        Mode::AbsoluteByte => false,
+        Mode::AbsoluteUbyte => false,
+        Mode::AbsoluteHalf => false,
+        Mode::AbsoluteUhalf => false,
+        Mode::StackByte => false,
+        Mode::StackUbyte => false,
+        Mode::StackHalf => false,
+        Mode::StackUhalf => false,
+        Mode::IndirectByte => false,
+        Mode::IndirectUbyte => false,
+        Mode::IndirectHalf => false,
+        Mode::IndirectUhalf => false,
+        Mode::AbsoluteWord => false,
+        Mode::StackWord => true,
+        Mode::IndirectWord => false,
+        Mode::Immediate => false,
+    }
+}
+
+// A source that is a constant or such a word; else 2^32.
+pub(crate) fn near_source(q: &[[u32; 4]; 16], r: &[u32; 17], m: Mode, v: u32) -> u64
+    ensures { λ x. ⌜ (x < 2 ^ 32 → (w : Wide) → readOperand (cpu (now (r .entry)) (now (q .entry))) w (operand.General m v) ≡ done x) ⌝ }
+{
+    if is_constant(m) {
+        return good(v);
+    }
+    if is_stack_word(m) {
+        let a = near_address(r, v);
+        if a < 0x1_0000_0000 {
+            return good(cache_read(Width::Word, q, low32(a)));
+        }
+    }
+    0x1_0000_0000
+}
+
+// ADD and its kind, to the word at a: the result goes there.
+fn near_compute(q: &mut [[u32; 4]; 16], r: &mut [u32; 17], op: Operation, a: u32, x: u32) -> bool
+    requires { ⌜ (cachedOf (now r) a ≡ true) × (a % 4 ≡ 0) ⌝ }
+    ensures { λ z. ⌜ (z ≡ true → ((w : Wide) (d : ℕ) → a ≡ stackAddress (cpu (now (r .entry)) []) d → rest (cpu (now (r .entry)) (now (q .entry))) w (task.Compute op) (operand.General mode.StackWord d) x ≡ done (cpu (now (r .exit)) (now (q .exit)))) × (holdsStack (cpu (now (r .exit)) (now (q .exit))) ≡ holdsStack (cpu (now (r .entry)) (now (q .entry))))) × (z ≡ false → (now (r .exit) ≡ now (r .entry)) × (now (q .exit) ≡ now (q .entry))) ⌝ }
+{
+    if divides(op) & (x == 0) {
+        return false;
+    }
+    let y = cache_read(Width::Word, q, a);
+    let z = operate(op, y, x);
+    cache_write(Width::Word, q, a, value_of(z));
+    with_flags(r, z);
+    true
+}
+
+// ADD3 and its kind: the result goes to the accumulator.
+fn near_accumulate(q: &mut [[u32; 4]; 16], r: &mut [u32; 17], op: Operation, a: u32, x: u32) -> bool
+    requires { ⌜ (cachedOf (now r) a ≡ true) × (a % 4 ≡ 0) ⌝ }
+    ensures { λ z. ⌜ (z ≡ true → ((w : Wide) (d : ℕ) → a ≡ stackAddress (cpu (now (r .entry)) []) d → rest (cpu (now (r .entry)) (now (q .entry))) w (task.Accumulate op) (operand.General mode.StackWord d) x ≡ done (cpu (now (r .exit)) (now (q .exit)))) × (holdsStack (cpu (now (r .exit)) (now (q .exit))) ≡ holdsStack (cpu (now (r .entry)) (now (q .entry))))) × (z ≡ false → (now (r .exit) ≡ now (r .entry)) × (now (q .exit) ≡ now (q .entry))) ⌝ }
+{
+    if divides(op) & (x == 0) {
+        return false;
+    }
+    let b = near_address(r, 4);
+    if 0x1_0000_0000 <= b {
+        return false;
+    }
+    let y = cache_read(Width::Word, q, a);
+    let z = operate(op, y, x);
+    cache_write(Width::Word, q, low32(b), value_of(z));
+    with_flags(r, z);
+    true
+}
+
+// CMP.
+fn near_compare(q: &[[u32; 4]; 16], r: &mut [u32; 17], relation: Relation, a: u32, x: u32)
+    requires { ⌜ (cachedOf (now r) a ≡ true) × (a % 4 ≡ 0) ⌝ }
+    ensures { λ _. ⌜ ((w : Wide) (d : ℕ) → a ≡ stackAddress (cpu (now (r .entry)) []) d → rest (cpu (now (r .entry)) (now (q .entry))) w (task.Compare relation) (operand.General mode.StackWord d) x ≡ done (cpu (now (r .exit)) (now (q .entry)))) × (holdsStack (cpu (now (r .exit)) (now (q .entry))) ≡ holdsStack (cpu (now (r .entry)) (now (q .entry)))) ⌝ }
+{
+    let y = cache_read(Width::Word, q, a);
+    with_flag(r, related(relation, x, y));
+}
+
+// What is left of a task with the source x, the destination such a word, at a.
+pub(crate) fn near_rest(q: &mut [[u32; 4]; 16], r: &mut [u32; 17], t: Task, a: u32, x: u32) -> bool
+    requires { ⌜ (cachedOf (now r) a ≡ true) × (a % 4 ≡ 0) ⌝ }
+    ensures { λ z. ⌜ (z ≡ true → (isQuick t ≡ true) × ((w : Wide) (d : ℕ) → a ≡ stackAddress (cpu (now (r .entry)) []) d → rest (cpu (now (r .entry)) (now (q .entry))) w t (operand.General mode.StackWord d) x ≡ done (cpu (now (r .exit)) (now (q .exit)))) × (holdsStack (cpu (now (r .exit)) (now (q .exit))) ≡ holdsStack (cpu (now (r .entry)) (now (q .entry))))) × (z ≡ false → (now (r .exit) ≡ now (r .entry)) × (now (q .exit) ≡ now (q .entry))) ⌝ }
+{
+    match t {
+        Task::Compute(op) => near_compute(q, r, op, a, x),
+        Task::Accumulate(op) => near_accumulate(q, r, op, a, x),
+        Task::Interlock(_) => false,
+        Task::Compare(relation) => {
+            near_compare(q, r, relation, a, x);
+            true
+        }
+        Task::TaggedAdd => false,
+        Task::TaggedSub => false,
+        Task::Move => {
+            cache_write(Width::Word, q, a, x);
+            true
+        }
+        Task::MoveAddress => false,
+        Task::MoveWords => false,
+    }
+}
