@@ -6,10 +6,10 @@ use mathlib.Core.List.{List, [], _∷_}
 use lib.ListN.{replicate, set}
 use lib.Dec.{eqb}
 use Rattle.memory.specs.Bytes.{Memory, number}
-use Rattle.machine.specs.Registers.{Bank, pc, psw}
+use Rattle.machine.specs.Registers.{Bank}
 use Rattle.machine.specs.Status.{Cpu, cpu, reg}
 use Rattle.machine.specs.Record.{zeroCache}
-use Rattle.run.specs.Run.{Board, board, Ended, run}
+use Rattle.run.specs.Run.{board, Ended, run}
 
 -- a number that the definition gives: this one, and not the wrong one
 abbrev pub is : ℕ → ℕ → ℕ → Bool

@@ -45,7 +45,7 @@ popped = runs 1 (cached kernel 0x200 0x600 0x680) (text 0x100 (0x0B01 ∷ []) pa
 abbrev pub caught : Ended
 caught = runs 1 (cached kernel 0x200 0x600 0x700) (text 0x100 (0x0912 ∷ []) page)
 
--- ---- confined: ENTER flushes the one quad-word that is held, at s
+-- ---- confined: ENTER flushes the one quad-word that is held
 
 -- "ENTER 0x500", with the entry of the second segment
 abbrev pub flushedTo : ℕ → Ended

@@ -10,7 +10,7 @@ use Rattle.isa.specs.declared.DyadicRow.{DyadicRow}
 use Rattle.isa.specs.declared.DyadicRow.the-variants as wide
 use Rattle.isa.specs.declared.Mode.the-variants.{AbsoluteUbyte, StackWord, Immediate}
 use Rattle.isa.specs.declared.Operand.{Operand}
-use Rattle.isa.specs.declared.Operand.the-variants.{General, Register}
+use Rattle.isa.specs.declared.Operand.the-variants.{General}
 use Rattle.isa.specs.declared.Wide.the-variants.{Five}
 use Rattle.isa.specs.declared.Instruction.{Instruction}
 use Rattle.isa.specs.declared.Instruction.the-variants.{Short, Dyadic, Monadic}

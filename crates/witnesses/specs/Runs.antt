@@ -11,7 +11,7 @@ use Rattle.isa.specs.Decode.{decodeShort, decodeDyadic, decodeMonadic, decodeTh
 use Rattle.mmu.specs.Walk.{segmentOf, segment, nonpagedOf, pageOf, walkFrom, walk, route, marked, fresh, recorded}
 use Rattle.program.specs.Access.{touch, follow, access}
 use Rattle.program.specs.Program.{interpret, after}
-use Rattle.machine.specs.Registers.{goodBank, config, fault, msp, pc, psw, sp, timer2, traceDue, nmiTaken}
+use Rattle.machine.specs.Registers.{goodBank, config, fault, msp, pc, psw, sp, timer2, traceDue, timer2Due, nmiTaken}
 use Rattle.machine.specs.Status.{Cpu, with}
 use Rattle.access.specs.Data.{readMemory, readData, writeMemory, writeData, checkStore}
 use Rattle.access.specs.Moves.{flush}
@@ -126,6 +126,10 @@ crossing = confined 1 (with user pc 0xFFA) (segmented (text 0xFFA (0xC6FC ∷ 0 
 abbrev pub modifying : Ended
 modifying = confined 1 user (word 0x1000 0x0F (word 0 0x1001 (text 0x100 (0xC6FC ∷ 0 ∷ 5 ∷ 0 ∷ 0x200 ∷ []) pages)))
 
+-- one step at an interrupt level
+abbrev pub pausing : ℕ → Cpu → Ended
+pausing level c = run true 1 level (board c (segmented moving))
+
 unfoldable pub confinedRuns : List Bool
 confinedRuns =
     -- an event reported before the first step
@@ -146,8 +150,13 @@ confinedRuns =
     ∷ is (register unimplemented pc) 0x100 0x300
     ∷ is (memoryWord unimplemented 0x600) 0 0x100
     -- an interrupt taken: it is reported, and nothing is done
-    ∷ is (run true 1 0 (board user (segmented moving)) .code) 0x10 0
-    ∷ is (register (run true 1 0 (board user (segmented moving))) nmiTaken) 0 1
+    ∷ is (pausing 0 user .code) 0x10 0
+    ∷ is (register (pausing 0 user) nmiTaken) 0 1
+    -- a stop that reports another event than the one due: level 3, Timer2, a trace; and level 3 at priority 3, which is none
+    ∷ is (pausing 3 (with user psw 0x1_7600) .code) 0x13 0x3
+    ∷ is (pausing 7 (with (with user psw 0x1_7600) timer2Due 1) .code) 0x18 0x17
+    ∷ is (pausing 7 (with user traceDue 1) .code) 0x2 0
+    ∷ is (pausing 3 (with user psw 0x1_3600) .steps) 1 0
     -- one walk for a text that goes on in a page that is not mapped
     ∷ is (crossing .code) 0x7 0
     ∷ is (memoryWord crossing 0x200) 0 5

@@ -10,21 +10,20 @@ use Rattle.isa.specs.Decode.{decodeShort, decodeDyadic, decodeMonadic, decodeTh
 use Rattle.mmu.specs.Walk.{segmentOf, segment, nonpagedOf, pageOf, walkFrom, walk, route, marked, fresh, recorded}
 use Rattle.program.specs.Access.{touch, follow, access}
 use Rattle.program.specs.Program.{interpret, after}
-use Rattle.machine.specs.Registers.{goodBank, config, fault, isp, pc, psw, shad, timer2, traceDue, timer1Due, timer2Due}
-use Rattle.machine.specs.Cache.{cacheRead, cacheWrite}
-use Rattle.machine.specs.Status.{Cpu, with}
-use Rattle.access.specs.Data.{readCached, readMemory, readData, writeCached, writeMemory, writeData, readFrame, writeFrame, checkStore}
+use Rattle.machine.specs.Registers.{goodBank, config, isp, pc, psw, shad, timer2, traceDue, timer1Due, timer2Due}
+use Rattle.machine.specs.Status.{with}
+use Rattle.access.specs.Data.{readMemory, readData, writeMemory, writeData, readFrame, writeFrame, checkStore}
 use Rattle.access.specs.Parts.{onward, _>>=_, request, parcelRequest, frameRequest}
 use Rattle.access.specs.Text.{fetchParcel, fetchParcels, fetchAfter, fetchPrefixed, fetchText}
 use Rattle.exec.specs.Operands.{located, locate, readPlace, readOperand, writeRegister, writePlace, writeAccumulator, checkRegisters}
 use Rattle.exec.specs.Dyadic.{checkDivisor, compute, accumulate, interlock, move, perform, dyadic}
 use Rattle.exec.specs.Control.{readWord32, jump, call}
 use Rattle.exec.specs.Stack.{stackTarget, enterPlain, enterAt, enter}
-use Rattle.exec.specs.Frames.{pushPair, pushFrame, throughVector, interruptSequence, exceptionSequence, storePc, unimplementedSequence, reset}
-use Rattle.exec.specs.Execute.{executeMonadic, executeNiladic, executeNormal, execute}
+use Rattle.exec.specs.Frames.{pushPair, throughVector, interruptSequence, storePc, unimplementedSequence, reset}
+use Rattle.exec.specs.Execute.{executeMonadic, executeNormal, execute}
 use Rattle.step.specs.Events.{take}
 use Rattle.step.specs.Timers.{counted}
-use Rattle.step.specs.Step.{fetchInstruction, act, attempt, eventStep, exceptionStep, finish, instructionStep, step}
+use Rattle.step.specs.Step.{fetchInstruction, act, attempt, eventStep, finish, instructionStep, step}
 use Rattle.run.specs.Run.{board, Ended, turn, tryActed, confinedAttempt, confinedTurn, advance, refusal, run}
 use Rattle.witnesses.specs.Boards.{is, all, page, word, text, kernel, user, segmented, runs, confined, register, memoryWord}
 
