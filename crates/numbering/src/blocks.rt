@@ -1,4 +1,5 @@
 // The block of an instruction.
+use crate::REGISTER_MODE;
 use encodings::modes::mode_code;
 use encodings::rows::list_dyadic;
 use encodings::rows::list_monadic;
@@ -18,7 +19,7 @@ fn operand_mode(o: Operand) -> u32
 {
     match o {
         Operand::General(m, _) => mode_code(m),
-        Operand::Register(_) => 16,
+        Operand::Register(_) => REGISTER_MODE,
     }
 }
 

@@ -11,6 +11,9 @@ use isa::Encoded;
 ghost use mathlib.Core.Path.{_≡_};
 ghost use Rattle.numbering.specs.Calls.{told, decodedInto, encodedFrom};
 
+// The mode word of a register, after the sixteen modes of Table 1-21.
+const REGISTER_MODE: u32 = 16;
+
 // The refusals: no code, and a text that is cut short.
 const NO_CODE: u32 = 5;
 

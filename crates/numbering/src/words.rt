@@ -1,6 +1,7 @@
 // The code of the instruction in a block, at a length n in parcels. Words after the form: row r, parcels w, prefix p, source
 // mode s and value x, destination mode d and value y.
 use crate::NO_CODE;
+use crate::REGISTER_MODE;
 use decoder::short::find_entry;
 use encoder::encode;
 use encodings::rows::list_short;
@@ -64,7 +65,7 @@ fn short_code(r: u32, w: u32, p: u32, s: u32, x: u32, d: u32, y: u32, n: u32) ->
 fn operand_in(k: u32, v: u32) -> Operand
     ensures { λ o. ⌜ o ≡ operandIn k v ⌝ }
 {
-    if k == 16 {
+    if k == REGISTER_MODE {
         return Operand::Register(v);
     }
     let e = find_general(k);
@@ -78,7 +79,7 @@ fn operand_in(k: u32, v: u32) -> Operand
 fn dyadic_code(w: Wide, r: u32, p: u32, s: u32, x: u32, d: u32, y: u32, n: u32) -> Encoded
     ensures { λ c. ⌜ c ≡ codeOf (dyadicIn w r p s x d y) n ⌝ }
 {
-    if (p < 2) & (s <= 16) & (d <= 16) {
+    if (p < 2) & (s <= REGISTER_MODE) & (d <= REGISTER_MODE) {
         let e = find_dyadic(r);
         match e {
             DyadicEntry::Row(q, _) => encode(

@@ -1,5 +1,5 @@
 // One turn of a run: a step, or a stop. The journal holds what a step that loses its stack must put back; the lengths
-// required are those of the run's own arrays and of whole pages.
+// required are those of the run's own journal and of whole pages.
 use attempts::attempt::attempt;
 use handler::journal::begin;
 use handler::journal::undo;
