@@ -1,13 +1,14 @@
--- The accesses to the words of a quad-word that one walk has found.
+-- The accesses to the words of a quad-word that one walk has found, and its place.
 -- Assumes nothing.
 use Prim.Native.Nat.{ℕ, _+_, _/_, _%_, _^_, _<_, _≤_}
 use mathlib.Core.Path.{_≡_, refl, sym, ap, _∙_}
 use mathlib.Core.Logic.{_⊎_, inl, inr}
-use mathlib.Core.Bool.{Bool, true, false, not}
+use mathlib.Core.Bool.{Bool, true, false, cond, not, _&&_, _||_}
 use native.Mathlib.Decide.{decLt}
 use native.Mathlib.Omega.{arith}
 use lib.ListN.{length}
-use borrow.Author.Tests.{le-leb, eq-eqb}
+use lib.Dec.{eqb, leb}
+use borrow.Author.Tests.{le-leb, lt-leb, leb-true, eq-eqb, ne-eqb, eqb-true, eqb-false}
 use Rattle.word.specs.declared.Width.the-variants.{Word}
 use Rattle.memory.specs.Answers.{Answer, got, answerOf}
 use Rattle.memory.specs.Bytes.{Memory, number, holds, load, stored, storeAnswer, storeMemory}
@@ -16,20 +17,17 @@ use Rattle.memory.proofs.Laws.{length-stored, byte-other, number-other}
 use Rattle.mmu.specs.declared.Kind.{Kind}
 use Rattle.mmu.specs.declared.Kind.the-variants.{Read, Write}
 use Rattle.mmu.specs.declared.Walk.{Walk}
-use Rattle.mmu.specs.declared.Walk.the-variants.{Direct, Paged}
+use Rattle.mmu.specs.declared.Walk.the-variants.{Fault, Direct, Paged}
 use Rattle.mmu.specs.Walk.{segmentPlace, walk, fresh}
 use Rattle.mmu.proofs.Beside.{walk-beside, walk-kept}
 use Rattle.mmu.proofs.Shape.{walk-paged}
 use Rattle.program.specs.Access.{read, write, Gave, gave, touch, follow}
 use Rattle.program.specs.Journal.{Journal, Journaled, journaled, logging}
 use Rattle.handler.specs.Followed.{followed, regimeFor, fitsWidth}
-use Rattle.handler.specs.Quads.{Quad}
+use Rattle.handler.specs.Quiet.{nowhere}
+use Rattle.handler.specs.Quads.{sharesWalk, sharedOf, quadPlace, Quad}
 use Rattle.handler.proofs.Laws.{entry-old}
 use Rattle.handler.proofs.AccessLaws.{read-virtual, read-paged, write-virtual, write-paged}
-
-pub old-is : (b f : Bool) → b ≡ f → not b ≡ true → f ≡ false
-old-is true f e h = cc
-old-is false f e h = sym e
 
 -- a number that stands for an answer with a value
 low : (x v : ℕ) → answerOf x ≡ got v → x < 2 ^ 32
@@ -131,11 +129,101 @@ module _ (user : Bool) (stb : ℕ) (a : ℕ) (m : Memory) (pa i : ℕ) (few : i 
       pub quad-kept : Quad user stb Write a n pa
       quad-kept = rw left kept
 
-pub quad-made : (user : Bool) (stb : ℕ) (k : Kind) (a : ℕ) (m : Memory) (p pa : ℕ) (f : Bool) (e : ℕ) → walk user stb k a m ≡ Paged p pa → f ≡ fresh k p m → not f ≡ true
-    → e ≡ segmentPlace stb a → a % 16 ≡ 0 → pa % 16 ≡ 0 → pa + 16 ≤ length m → (p / 16 ≡ pa / 16 → ⊥) → (e / 16 ≡ pa / 16 → ⊥) → pa < 2 ^ 32
-    → Quad user stb k a m pa
-quad-made user stb k a m p pa f e w g n s b c l x y _ =
-    record { entry = p; found = w; old = old-is f (fresh k p m) g n; start = b; place = c; inside = l; apart = x; clear = rw (sym s) y }
+-- ---- places
 
-pub walk-told : (w y : Walk) (p pa : ℕ) → w ≡ y → w ≡ Paged p pa → y ≡ Paged p pa
-walk-told w y p pa e f = sym e ∙ f
+both : (x y : Bool) → (x && y) ≡ true → (x ≡ true) × (y ≡ true)
+both true y h = (refl, h)
+both false y h = (h, cc)
+
+not-true : (b : Bool) → not b ≡ true → b ≡ false
+not-true true h = sym h
+not-true false h = refl
+
+-- the place of a quad-word is an address: it lies there
+pub quad-place : (user : Bool) (stb : ℕ) (k : Kind) (a : ℕ) (m : Memory) → quadPlace user stb k a m < 2 ^ 32
+    → Quad user stb k a m (quadPlace user stb k a m)
+unfolding quadPlace
+quad-place user stb k a m h = go (walk user stb k a m) refl h
+  where
+    quad-at : (p pa : ℕ) → walk user stb k a m ≡ Paged p pa → sharesWalk stb k a m p pa ≡ true → Quad user stb k a m pa
+    quad-at p pa e t =
+        let f5 = both (not (fresh k p m) && eqb (a % 16) 0 && eqb (pa % 16) 0 && leb (pa + 16) (length m) && not (eqb (p / 16) (pa / 16))) (not (eqb (segmentPlace stb a / 16) (pa / 16))) t in
+        let f4 = both (not (fresh k p m) && eqb (a % 16) 0 && eqb (pa % 16) 0 && leb (pa + 16) (length m)) (not (eqb (p / 16) (pa / 16))) (f5 .0) in
+        let f3 = both (not (fresh k p m) && eqb (a % 16) 0 && eqb (pa % 16) 0) (leb (pa + 16) (length m)) (f4 .0) in
+        let f2 = both (not (fresh k p m) && eqb (a % 16) 0) (eqb (pa % 16) 0) (f3 .0) in
+        let f1 = both (not (fresh k p m)) (eqb (a % 16) 0) (f2 .0) in
+        record {
+          entry = p;
+          found = e;
+          old = not-true (fresh k p m) (f1 .0);
+          start = eqb-true (a % 16) 0 (f1 .1);
+          place = eqb-true (pa % 16) 0 (f2 .1);
+          inside = leb-true (pa + 16) (length m) (f3 .1);
+          apart = eqb-false (p / 16) (pa / 16) (not-true _ (f4 .1));
+          clear = eqb-false (segmentPlace stb a / 16) (pa / 16) (not-true _ (f5 .1));
+        }
+
+    paged-at : (p pa : ℕ) → walk user stb k a m ≡ Paged p pa → (s : Bool) → sharesWalk stb k a m p pa ≡ s → cond s pa nowhere < 2 ^ 32
+        → Quad user stb k a m (cond s pa nowhere)
+    paged-at p pa e true es l = quad-at p pa e es
+    paged-at p pa e false es l = absurd (omega (arith, l))
+
+    go : (w : Walk) → walk user stb k a m ≡ w → sharedOf stb k a m w < 2 ^ 32 → Quad user stb k a m (sharedOf stb k a m w)
+    go (Fault c) e l = absurd (omega (arith, l))
+    go (Direct pa) e l = absurd (omega (arith, l))
+    go (Paged p pa) e l = paged-at p pa e (sharesWalk stb k a m p pa) refl l
+
+-- the same of a number that is the place
+pub place-quad : (user : Bool) (stb : ℕ) (k : Kind) (a : ℕ) (m : Memory) (x : ℕ) → x ≡ quadPlace user stb k a m → x < 2 ^ 32 → Quad user stb k a m x
+place-quad user stb k a m x e h = rw e (quad-place user stb k a m (rw (← e) h))
+
+pub place-shared : (user : Bool) (stb : ℕ) (k : Kind) (a : ℕ) (m : Memory) (w : Walk) → w ≡ walk user stb k a m → (x : ℕ) → x ≡ sharedOf stb k a m w
+    → x ≡ quadPlace user stb k a m
+unfolding quadPlace
+place-shared user stb k a m w e x f = f ∙ ap (sharedOf stb k a m) e
+
+module _ (stb : ℕ) (k : Kind) (a : ℕ) (m : Memory) (w : Walk) (p pa : ℕ) (e : w ≡ Paged p pa) (t : Bool) (et : t ≡ sharesWalk stb k a m p pa) where
+  pub shared-found : t ≡ true → pa ≡ sharedOf stb k a m w
+  shared-found h = rw (e, sym et ∙ h) refl
+
+  pub shared-not : t ≡ false → nowhere ≡ sharedOf stb k a m w
+  shared-not h = rw (e, sym et ∙ h) refl
+
+-- ---- the test, one part after another
+
+odd-quad : (f u v l p e : Bool) → (not u || not v) ≡ true → false ≡ (f && u && v && l && p && e)
+odd-quad false u v l p e h = refl
+odd-quad true false v l p e h = refl
+odd-quad true true false l p e h = refl
+odd-quad true true true l p e h = cc
+
+no-third : (b d e : Bool) → false ≡ (b && false && d && e)
+no-third true d e = refl
+no-third false d e = refl
+
+no-second : (b e : Bool) → false ≡ (b && false && e)
+no-second true e = refl
+no-second false e = refl
+
+all-even : (u v : Bool) → (not u || not v) ≡ false → (u && v) ≡ true
+all-even true true h = refl
+all-even true false h = sym h
+all-even false v h = sym h
+
+module _ (stb : ℕ) (k : Kind) (a : ℕ) (m : Memory) (p pa : ℕ) where
+  pub shares-fresh : (f : Bool) → f ≡ fresh k p m → f ≡ true → false ≡ sharesWalk stb k a m p pa
+  shares-fresh f ef h = rw (sym ef ∙ h) refl
+
+  pub shares-odd : (not (eqb (a % 16) 0) || not (eqb (pa % 16) 0)) ≡ true → false ≡ sharesWalk stb k a m p pa
+  shares-odd h = odd-quad (not (fresh k p m)) (eqb (a % 16) 0) (eqb (pa % 16) 0) _ _ _ h
+
+  pub shares-past : length m < pa + 16 → false ≡ sharesWalk stb k a m p pa
+  shares-past h = rw (lt-leb (pa + 16) (length m) h) (no-third (not (fresh k p m) && eqb (a % 16) 0 && eqb (pa % 16) 0) _ _)
+
+  pub shares-entry : p / 16 ≡ pa / 16 → false ≡ sharesWalk stb k a m p pa
+  shares-entry h = rw (eq-eqb (p / 16) (pa / 16) h) (no-second (not (fresh k p m) && eqb (a % 16) 0 && eqb (pa % 16) 0 && leb (pa + 16) (length m)) _)
+
+  pub shares-rest : (f : Bool) → f ≡ fresh k p m → f ≡ false → (not (eqb (a % 16) 0) || not (eqb (pa % 16) 0)) ≡ false → pa + 16 ≤ length m
+      → (p / 16 ≡ pa / 16 → ⊥) → (e : ℕ) → e ≡ segmentPlace stb a → not (eqb (e / 16) (pa / 16)) ≡ sharesWalk stb k a m p pa
+  shares-rest f ef h o l n e ee =
+      rw (ee, sym ef ∙ h, le-leb (pa + 16) (length m) l, ne-eqb (p / 16) (pa / 16) n, all-even (eqb (a % 16) 0) (eqb (pa % 16) 0) o) refl

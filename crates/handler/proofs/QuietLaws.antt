@@ -1,4 +1,4 @@
--- Accesses whose walk neither faults nor sets a bit touch their place, and that is all.
+-- Accesses whose walk neither faults nor sets a bit touch their place, and that is all; and their places.
 -- Assumes nothing.
 use Prim.Native.Nat.{ℕ, _+_, _*_, _/_, _%_, _^_, _<_}
 use mathlib.Core.Path.{_≡_, refl, sym, ap, _∙_}
@@ -11,12 +11,12 @@ use Rattle.mmu.specs.declared.Kind.{Kind}
 use Rattle.mmu.specs.declared.Kind.the-variants.{Fetch, Read, Write}
 use Rattle.mmu.specs.declared.Regime.{Regime}
 use Rattle.mmu.specs.declared.Walk.{Walk}
-use Rattle.mmu.specs.declared.Walk.the-variants.{Direct, Paged}
+use Rattle.mmu.specs.declared.Walk.the-variants.{Fault, Direct, Paged}
 use Rattle.mmu.specs.Walk.{walk, route, fresh, recorded}
 use Rattle.mmu.proofs.Beside.{walk-beside, direct-beside}
 use Rattle.program.specs.Access.{fetch, read, write, gave, touch, follow, access}
 use Rattle.handler.specs.Followed.{regimeFor, fitsWidth}
-use Rattle.handler.specs.Quiet.{Quiet, direct, paged}
+use Rattle.handler.specs.Quiet.{nowhere, settledOf, quietPlace, Quiet, direct, paged}
 use Rattle.handler.proofs.AccessLaws.{fits-is, word-is, text-is, even}
 
 module _ (g : Regime) (m : Memory) (pa : ℕ) where
@@ -50,19 +50,38 @@ quiet-beside g k a i m pa h (paged p e f) = paged p (go (g .translated) e) f
     go true q = walk-beside (g .user) (g .stb) k a i h m p pa q
     go false q = let z : _≡_ {A = ℕ} 0 1 = cc in absurd (omega arith)
 
+-- ---- places
+
+-- a place is an address: the access goes there
+pub quiet-place : (g : Regime) (k : Kind) (a : ℕ) (m : Memory) → quietPlace g k a m < 2 ^ 32 → Quiet g k a m (quietPlace g k a m)
+unfolding quietPlace
+quiet-place g k a m h = go (route g k a m) refl h
+  where
+    paged-at : (p pa : ℕ) → route g k a m ≡ Paged p pa → (f : Bool) → fresh k p m ≡ f → cond f nowhere pa < 2 ^ 32 → Quiet g k a m (cond f nowhere pa)
+    paged-at p pa e true ef l = absurd (omega (arith, l))
+    paged-at p pa e false ef l = paged p e ef
+
+    go : (w : Walk) → route g k a m ≡ w → settledOf k m w < 2 ^ 32 → Quiet g k a m (settledOf k m w)
+    go (Fault c) e l = absurd (omega (arith, l))
+    go (Direct pa) e l = direct e
+    go (Paged p pa) e l = paged-at p pa e (fresh k p m) refl l
+
+-- the same of a number that is the place
+pub place-quiet : (g : Regime) (k : Kind) (a : ℕ) (m : Memory) (x : ℕ) → x ≡ quietPlace g k a m → x < 2 ^ 32 → Quiet g k a m x
+place-quiet g k a m x e h = rw e (quiet-place g k a m (rw (← e) h))
+
+module _ (k : Kind) (m : Memory) (w : Walk) (p pa : ℕ) (e : w ≡ Paged p pa) (f : Bool) (ef : f ≡ fresh k p m) where
+  pub settled-fresh : f ≡ true → nowhere ≡ settledOf k m w
+  settled-fresh h = rw (e, sym ef ∙ h) refl
+
+  pub settled-old : f ≡ false → pa ≡ settledOf k m w
+  settled-old h = rw (e, sym ef ∙ h) refl
+
 module _ (stb : ℕ) (user t : Bool) (k : Kind) (a : ℕ) (m : Memory) where
-  pub quiet-physical : t ≡ false → Quiet (regimeFor stb user t) k a m a
-  unfolding route
-  quiet-physical h = direct (rw h refl)
+  pub place-physical : t ≡ false → a ≡ quietPlace (regimeFor stb user t) k a m
+  unfolding quietPlace route
+  place-physical h = rw h refl
 
-  pub quiet-translated : (x : ℕ) → t ≡ true → (x < 2 ^ 32 → Quiet (regimeFor stb user true) k a m x) → x < 2 ^ 32 → Quiet (regimeFor stb user t) k a m x
-  quiet-translated x h f l = rw h (f l)
-
-  module _ (h : t ≡ true) (w : Walk) (e : w ≡ walk user stb k a m) (pa : ℕ) where
-    pub quiet-direct : w ≡ Direct pa → Quiet (regimeFor stb user t) k a m pa
-    unfolding route
-    quiet-direct f = direct (rw h (sym e ∙ f))
-
-    pub quiet-paged : (p : ℕ) → w ≡ Paged p pa → (b : Bool) → b ≡ fresh k p m → b ≡ false → Quiet (regimeFor stb user t) k a m pa
-    unfolding route
-    quiet-paged p f b eb i = paged p (rw h (sym e ∙ f)) (sym eb ∙ i)
+  pub place-walked : t ≡ true → (w : Walk) → w ≡ walk user stb k a m → (x : ℕ) → x ≡ settledOf k m w → x ≡ quietPlace (regimeFor stb user t) k a m
+  unfolding quietPlace route
+  place-walked h w e x f = rw h (f ∙ ap (settledOf k m) e)

@@ -1,3 +1,3 @@
 pub mod Followed
-pub mod Quads
 pub mod Quiet
+pub mod Quads

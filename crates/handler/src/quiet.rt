@@ -1,4 +1,4 @@
-// Places of accesses whose walk neither faults nor sets a bit.
+// Places of accesses whose walk neither faults nor sets a bit; 2^32 where it does.
 use mmu::Kind;
 use mmu::Walk;
 use mmu::recording::is_fresh;
@@ -6,17 +6,13 @@ use mmu::translation::translate_fetch;
 use mmu::translation::translate_read;
 use mmu::translation::translate_write;
 ghost use mathlib.Core.Path.{_≡_};
-ghost use mathlib.Core.Bool.{true};
-ghost use Prim.Native.Nat.{_^_, _<_};
 ghost use Rattle.mmu.specs.declared.Kind.the-variants as kind;
-ghost use Rattle.mmu.specs.Walk.{walk};
 ghost use Rattle.handler.specs.Followed.{regimeFor};
-ghost use Rattle.handler.specs.Quiet.{Quiet};
+ghost use Rattle.handler.specs.Quiet.{settledOf, quietPlace};
 
-// Where the walk of a ends, or 2^32. (user, stb and a stand in the contract alone.)
-fn settled(m: &[u8], user: bool, stb: u32, k: Kind, a: u32, w: Walk) -> u64
-    requires { ⌜ w ≡ walk user stb k a (now m) ⌝ }
-    ensures { λ x. ⌜ (x < 2 ^ 32 → Quiet (regimeFor stb user true) k a (now (m .entry)) x) ⌝ }
+// Where a walk of kind k ends.
+fn settled(m: &[u8], k: Kind, w: Walk) -> u64
+    ensures { λ x. ⌜ x ≡ settledOf k (now (m .entry)) w ⌝ }
 {
     match w {
         Walk::Fault(_) => 0x1_0000_0000,
@@ -31,37 +27,37 @@ fn settled(m: &[u8], user: bool, stb: u32, k: Kind, a: u32, w: Walk) -> u64
     }
 }
 
-// The physical place of a fetch at a, or 2^32.
+// The physical place of a fetch at a.
 pub fn fetch_place(m: &[u8], stb: u32, user: bool, translated: bool, a: u32) -> u64
-    ensures { λ x. ⌜ (x < 2 ^ 32 → Quiet (regimeFor stb user translated) kind.Fetch a (now (m .entry)) x) ⌝ }
+    ensures { λ x. ⌜ x ≡ quietPlace (regimeFor stb user translated) kind.Fetch a (now (m .entry)) ⌝ }
 {
     if translated {
         let w = translate_fetch(m, user, stb, a);
-        settled(m, user, stb, Kind::Fetch, a, w)
+        settled(m, Kind::Fetch, w)
     } else {
         a as u64
     }
 }
 
-// The physical place of a read at a, or 2^32.
+// The physical place of a read at a.
 pub fn read_place(m: &[u8], stb: u32, user: bool, translated: bool, a: u32) -> u64
-    ensures { λ x. ⌜ (x < 2 ^ 32 → Quiet (regimeFor stb user translated) kind.Read a (now (m .entry)) x) ⌝ }
+    ensures { λ x. ⌜ x ≡ quietPlace (regimeFor stb user translated) kind.Read a (now (m .entry)) ⌝ }
 {
     if translated {
         let w = translate_read(m, user, stb, a);
-        settled(m, user, stb, Kind::Read, a, w)
+        settled(m, Kind::Read, w)
     } else {
         a as u64
     }
 }
 
-// The physical place of a write at a, or 2^32.
+// The physical place of a write at a.
 pub fn write_place(m: &[u8], stb: u32, user: bool, translated: bool, a: u32) -> u64
-    ensures { λ x. ⌜ (x < 2 ^ 32 → Quiet (regimeFor stb user translated) kind.Write a (now (m .entry)) x) ⌝ }
+    ensures { λ x. ⌜ x ≡ quietPlace (regimeFor stb user translated) kind.Write a (now (m .entry)) ⌝ }
 {
     if translated {
         let w = translate_write(m, user, stb, a);
-        settled(m, user, stb, Kind::Write, a, w)
+        settled(m, Kind::Write, w)
     } else {
         a as u64
     }

@@ -16,7 +16,8 @@ use Rattle.mmu.specs.declared.Kind.{Kind}
 use Rattle.mmu.specs.declared.Kind.the-variants.{Read}
 use Rattle.mmu.specs.declared.Regime.{Regime}
 use Rattle.handler.specs.Followed.{regimeFor}
-use Rattle.handler.specs.Quads.{Quad}
+use Rattle.handler.specs.Quads.{quadPlace, Quad}
+use Rattle.handler.proofs.QuadLaws.{place-quad}
 use Rattle.program.specs.Access.{read, Gave, gave}
 use Rattle.program.specs.Program.{Program, interpret}
 use Rattle.program.specs.Journal.{Journal, Journaled, journaled, logging}
@@ -109,8 +110,8 @@ found-filled b q user stb a pa m k l x0 x1 x2 x3 v0 v1 v2 v3 p e0 h0 e1 h1 e2 h2
     h1 (a + 8) (omega arith) x2 (journaled m o) (e2 o) h2 (a + 12) (omega arith) x3 (journaled m o) (e3 o) h3 v0 v1 v2 v3 p f0 f1 f2 f3 ep refl
 
 -- the place that low32 takes from the answer of a search
-pub quad-at : (user : Bool) (stb : ℕ) (k : Kind) (a : ℕ) (m : Memory) (x p : ℕ) → (x < 2 ^ 32 → Quad user stb k a m x) → x < 2 ^ 32 → p ≡ x % 2 ^ 32 → Quad user stb k a m p
-quad-at user stb k a m x p f h e = let d : p ≡ x = omega arith in rw d (f h)
+pub quad-at : (user : Bool) (stb : ℕ) (k : Kind) (a : ℕ) (m : Memory) (x p : ℕ) → x ≡ quadPlace user stb k a m → x < 2 ^ 32 → p ≡ x % 2 ^ 32 → Quad user stb k a m p
+quad-at user stb k a m x p f h e = let d : p ≡ x = omega arith in rw d (place-quad user stb k a m x f h)
 
 -- ---- the quad-words from MSP up
 

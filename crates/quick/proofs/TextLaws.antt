@@ -18,8 +18,8 @@ use Rattle.machine.specs.Registers.{Bank, word, pc, stb}
 use Rattle.machine.specs.Cache.{Cache}
 use Rattle.machine.specs.Status.{cpu, isUser, isVirtual, regime}
 use Rattle.handler.specs.Followed.{regimeFor}
-use Rattle.handler.specs.Quiet.{Quiet}
-use Rattle.handler.proofs.QuietLaws.{fetch-quiet, quiet-beside}
+use Rattle.handler.specs.Quiet.{quietPlace, Quiet}
+use Rattle.handler.proofs.QuietLaws.{fetch-quiet, quiet-beside, place-quiet}
 use Rattle.access.specs.Parts.{done, parcelRequest}
 use Rattle.access.specs.Text.{fetchParcel, fetchParcels, following, fetchAfter, fetchText}
 use Rattle.isa.specs.Decode.{decodeShort, decodeWide, decodeBare, decodeOf, cpuPrefix, textOf}
@@ -34,8 +34,9 @@ use Rattle.quick.specs.Performed.{parcelAt, parcelsFrom, textAt, lengthA
 use Rattle.quick_dyadic.proofs.GiveLaws.{gives-then, gives-done}
 use Rattle.quick_dyadic.proofs.AccessLaws.{regime-is}
 
-pub quiet-here : (b : Bank) (s : ℕ) (u t : Bool) → u ≡ isUser b → t ≡ isVirtual b → s ≡ word b stb → (a : ℕ) (m : Memory) (x : ℕ) → Quiet (regimeFor s u t) Fetch a m x → Quiet (regime b) Fetch a m x
-quiet-here b s u t eu et es a m x k = subst (λ g. Quiet g Fetch a m x) (regime-is b s u t eu et es) k
+pub quiet-here : (b : Bank) (s : ℕ) (u t : Bool) → u ≡ isUser b → t ≡ isVirtual b → s ≡ word b stb → (a : ℕ) (m : Memory) (x : ℕ) → x ≡ quietPlace (regimeFor s u t) Fetch a m → x < 2 ^ 32
+    → Quiet (regime b) Fetch a m x
+quiet-here b s u t eu et es a m x k h = place-quiet (regime b) Fetch a m x (rw (← regime-is b s u t eu et es) k) h
 
 -- ---- parcels
 

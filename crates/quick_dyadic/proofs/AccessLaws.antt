@@ -1,7 +1,7 @@
 -- Data accesses that neither fault nor set a bit.
 -- Assumes nothing.
 use Prim.Native.Nat.{ℕ, _%_, _^_, _<_, _≤_}
-use mathlib.Core.Path.{_≡_, refl, sym, ap, subst, _∙_}
+use mathlib.Core.Path.{_≡_, refl, sym, ap, _∙_}
 use mathlib.Core.Bool.{Bool, true, false, cond}
 use native.Mathlib.Omega.{arith}
 use borrow.Author.Tests.{eq-eqb}
@@ -18,8 +18,8 @@ use Rattle.machine.specs.Registers.{Bank, word, stb}
 use Rattle.machine.specs.Cache.{Cache, cacheRead, cacheWrite}
 use Rattle.machine.specs.Status.{Cpu, cpu, cached, isLittle, isUser, isVirtual, regime}
 use Rattle.handler.specs.Followed.{regimeFor, fitsWidth}
-use Rattle.handler.specs.Quiet.{Quiet}
-use Rattle.handler.proofs.QuietLaws.{read-quiet, write-quiet}
+use Rattle.handler.specs.Quiet.{quietPlace}
+use Rattle.handler.proofs.QuietLaws.{read-quiet, write-quiet, place-quiet}
 use Rattle.access.specs.Parts.{ok, done, request}
 use Rattle.access.specs.Data.{isAligned, readCached, readMemory, readData, writeCached, writeMemory, writeData}
 use Rattle.quick_dyadic.specs.Quick.{gives}
@@ -44,16 +44,16 @@ module _ (b : Bank) (s : ℕ) (u t : Bool) (eu : u ≡ isUser b) (et : t ≡ isV
   at-place : a ≡ x
   at-place = let same : x % 2 ^ 32 ≡ x = omega arith in ea ∙ same
 
-  pub far-read : Quiet (regimeFor s u t) Read p m x → answerOf y ≡ load (bytesOf w) m a → access (read (regime b) w p) m ≡ gave (got y) m
+  pub far-read : x ≡ quietPlace (regimeFor s u t) Read p m → answerOf y ≡ load (bytesOf w) m a → access (read (regime b) w p) m ≡ gave (got y) m
   far-read k e =
-      read-quiet (regime b) m x w p hp (sym ef ∙ hf) (subst (λ g. Quiet g Read p m x) (regime-is b s u t eu et es) k)
+      read-quiet (regime b) m x w p hp (sym ef ∙ hf) (place-quiet (regime b) Read p m x (rw (← regime-is b s u t eu et es) k) hx)
       ∙ ap (λ (z : Answer). gave z m) (ap (λ (n : ℕ). load (bytesOf w) m n) (sym at-place) ∙ sym e ∙ answer-got y hy)
 
   -- n is the memory after the store, y its answer
-  pub far-stored : Quiet (regimeFor s u t) Write p m x → (v : ℕ) (n : Memory) → stored-with (answerOf y) n ≡ storeOf (bytesOf w) m a v → access (write (regime b) w p v) m ≡ gave (got 0) n
+  pub far-stored : x ≡ quietPlace (regimeFor s u t) Write p m → (v : ℕ) (n : Memory) → stored-with (answerOf y) n ≡ storeOf (bytesOf w) m a v → access (write (regime b) w p v) m ≡ gave (got 0) n
   unfolding storeOf storeAnswer
   far-stored k v n e =
-      write-quiet (regime b) m x w p v hp (sym ef ∙ hf) (subst (λ g. Quiet g Write p m x) (regime-is b s u t eu et es) k)
+      write-quiet (regime b) m x w p v hp (sym ef ∙ hf) (place-quiet (regime b) Write p m x (rw (← regime-is b s u t eu et es) k) hx)
       ∙ ap (λ (z : ℕ). gave (storeAnswer (bytesOf w) m z) (storeMemory (bytesOf w) m z v)) (sym at-place)
       ∙ ap (λ (z : Memory). gave (storeAnswer (bytesOf w) m a) z) (sym (ap (λ (z : Effect). z .memory) e))
       ∙ ap (λ (z : Answer). gave z n) (go (holds m a (bytesOf w)) (sym (answer-got y hy) ∙ ap (λ (z : Effect). z .answer) e))

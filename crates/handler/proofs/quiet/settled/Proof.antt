@@ -1,6 +1,4 @@
-use Rattle.handler.proofs.QuietLaws.{quiet-direct, quiet-paged}
-use native.Mathlib.Omega.{arith}
-use mathlib.Core.Path.{refl}
+use Rattle.handler.proofs.QuietLaws.{settled-fresh, settled-old}
 use borrow.Author.Needs.{needs}
 use Rattle.handler.proofs.quiet.settled.Statement.{statement}
 use Rattle.handler.proofs.quiet.settled.Tie as tie
@@ -24,16 +22,16 @@ cast-result-2 : tie.Need-cast-result-2
 cast-result-2 c = search needs
 
 returns : tie.Need-returns
-returns c = λ h. absurd (omega (arith, h))
+returns c = search needs
 
 returns-2 : tie.Need-returns-2
-returns-2 c = λ h. quiet-direct (c .before .before .before .before .args .stb) (c .before .before .before .before .args .user) _ (c .before .before .before .before .args .k) (c .before .before .before .before .args .a) (c .before .before .before .before .args .m .now) refl (c .before .before .before .before .args .w) (c .before .before .before .before .pre) _ (c .before .w .given .1)
+returns-2 c = search needs
 
 returns-3 : tie.Need-returns-3
-returns-3 c = λ h. absurd (omega (arith, h))
+returns-3 c = search (needs, settled-fresh)
 
 returns-4 : tie.Need-returns-4
-returns-4 c = λ h. quiet-paged (c .before .before .before .before .before .before .args .stb) (c .before .before .before .before .before .before .args .user) _ (c .before .before .before .before .before .before .args .k) (c .before .before .before .before .before .before .args .a) (c .before .before .before .before .before .before .args .m .now) refl (c .before .before .before .before .before .before .args .w) (c .before .before .before .before .before .before .pre) _ _ (c .before .before .before .w2 .given .1) (c .before .is-fresh .result) (c .before .is-fresh .ensures) (c .if1 .left)
+returns-4 c = search (needs, settled-old)
 
 pub settled-spec : {M : Type 1} → statement M
 settled-spec =

@@ -21,7 +21,7 @@ add-if4 : tie.Need-add-if4
 add-if4 c = search needs
 
 returns : tie.Need-returns
-returns c = λ h. (quiet-here (c .before .before .before .before .before .before .before .before .before .args .r .now) _ _ _ (c .before .before .before .before .is-user .ensures) (c .before .before .before .is-virtual .ensures) refl _ _ _ (c .before .before .fetch-place .ensures (c .before .if3 .taken)), c .before .before .before .before .before .before .before .if1 .taken, omega (arith, c .before .before .before .before .before .before .if2 .taken), search needs, c .if4 .taken)
+returns c = λ h. (quiet-here (c .before .before .before .before .before .before .before .before .before .args .r .now) _ _ _ (c .before .before .before .before .is-user .ensures) (c .before .before .before .is-virtual .ensures) refl _ _ _ (c .before .before .fetch-place .ensures) (c .before .if3 .taken), c .before .before .before .before .before .before .before .if1 .taken, omega (arith, c .before .before .before .before .before .before .if2 .taken), search needs, c .if4 .taken)
 
 returns-2 : tie.Need-returns-2
 returns-2 c = λ h. absurd (omega (arith, h))

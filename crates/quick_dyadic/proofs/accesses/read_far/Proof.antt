@@ -33,7 +33,7 @@ load-requires : tie.Need-load-requires
 load-requires c κs = search needs
 
 returns-3 : tie.Need-returns-3
-returns-3 c = λ h. search (needs, far-read, passed, c .before .before .before .read-place .ensures (c .before .before .if2 .left))
+returns-3 c = λ h. search (needs, far-read, passed)
 
 pub read-far-spec : {M : Type 1} → statement M
 read-far-spec =

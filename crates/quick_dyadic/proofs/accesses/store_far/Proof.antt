@@ -45,7 +45,7 @@ same-length-3 : tie.Need-same-length-3
 same-length-3 c = search needs
 
 returns-4 : tie.Need-returns-4
-returns-4 c = (λ h. far-stored (c .before .before .before .before .before .before .before .before .before .before .before .before .before .before .before .args .r .now) _ _ _ (c .before .before .before .before .before .before .before .before .before .is-user .ensures) (c .before .before .before .before .before .before .before .before .is-virtual .ensures) refl _ _ _ (search needs) _ (c .before .before .before .before .before .before .before .before .before .before .before .before .before .aligned .ensures) (passed _ (c .before .before .before .before .before .before .before .before .before .before .before .before .if1 .left)) _ (c .before .before .before .before .before .before .if2 .left) _ (c .before .before .before .before .low32 .ensures) _ (c .if3 .left) (c .before .before .before .before .before .before .before .write-place .ensures (c .before .before .before .before .before .before .if2 .left)) _ _ (c .before .before .before .store .ensures), λ h. not-both (sym h))
+returns-4 c = (λ h. far-stored (c .before .before .before .before .before .before .before .before .before .before .before .before .before .before .before .args .r .now) _ _ _ (c .before .before .before .before .before .before .before .before .before .is-user .ensures) (c .before .before .before .before .before .before .before .before .is-virtual .ensures) refl _ _ _ (search needs) _ (c .before .before .before .before .before .before .before .before .before .before .before .before .before .aligned .ensures) (passed _ (c .before .before .before .before .before .before .before .before .before .before .before .before .if1 .left)) _ (c .before .before .before .before .before .before .if2 .left) _ (c .before .before .before .before .low32 .ensures) _ (c .if3 .left) (c .before .before .before .before .before .before .before .write-place .ensures) _ _ (c .before .before .before .store .ensures), λ h. not-both (sym h))
 
 pub store-far-spec : {M : Type 1} → statement M
 store-far-spec =
