@@ -1,6 +1,6 @@
 -- The ways out of what the decoder answered.
 -- Assumes nothing.
-use Prim.Native.Nat.{ℕ, _%_, _^_, _<_, _≤_}
+use Prim.Native.Nat.{ℕ, _^_, _<_, _≤_}
 use mathlib.Core.Path.{_≡_, refl, sym, ap, _∙_}
 use mathlib.Core.Bool.{Bool, true, false, _&&_}
 use native.Mathlib.Omega.{arith}
@@ -11,7 +11,7 @@ use Rattle.laws.proofs.Cases.{and-left, and-right}
 use Rattle.memory.specs.Answers.{answerOf}
 use Rattle.memory.proofs.AnswerLaws.{answer-high, answer-got}
 use Rattle.program.specs.Access.{Gave, gave}
-use Rattle.program.specs.Program.{Program, interpret}
+use Rattle.program.specs.Program.{Program, interpret, after}
 use Rattle.program.specs.Journal.{Journaled, logging}
 use Rattle.machine.specs.Registers.{Bank}
 use Rattle.machine.specs.Cache.{Cache}
@@ -27,8 +27,8 @@ use Rattle.rows.specs.declared.Action.the-variants.{One}
 use Rattle.rows.specs.Rows.{actionOf}
 use Rattle.pending.specs.Traces.{tracedFrom}
 use Rattle.step.specs.Step.{meets, vectored, finished, sequenced, act}
-use Rattle.run.specs.Run.{Tried, tried, isKcall, tryActed}
-use Rattle.attempts.specs.Code.{actOf, triedOut}
+use Rattle.run.specs.Run.{tried, isKcall, tryActed}
+use Rattle.attempts.specs.Code.{Attempted, acted, ofTried, actOf, attemptedOut}
 
 -- ---- a part whose value is only renamed
 
@@ -71,21 +71,18 @@ pub classed-high : (k : ℕ) (c : Traced) → tracedFrom k ≡ c → 2 ≤ k →
 classed-high k c e h = (sym (simp (ne-eqb k 0 (λ f. omega arith), ne-eqb k 1 (λ f. omega arith))) ∙ e, omega arith)
 
 -- a finished instruction's answer
-pub answers-class : (v : ℕ) (c : Traced) (b : Bank) (q : Cache) → tracedFrom v ≡ c → v < 3 → triedOut (answerOf v) b q ≡ ok (tried (finished c (cpu b q)))
+answers-class : (v : ℕ) (c : Traced) (b : Bank) (q : Cache) → tracedFrom v ≡ c → v < 3 → attemptedOut (answerOf v) b q ≡ ok (acted (finished c (cpu b q)))
 answers-class v c b q e h =
     let l : v < 2 ^ 32 = omega arith in
     let k : v < 4 = omega arith in
     simp (answer-got v l, lt-ltb v 4 k, lt-ltb v 3 h, e)
 
-pub answers-stop : (x : ℕ) (b : Bank) (q : Cache) → 2 ^ 32 ≤ x → triedOut (answerOf x) b q ≡ stop (x % 2 ^ 32) (cpu b q)
-answers-stop x b q h = rw (answer-high x h) refl
-
 module _ (confined : Bool) (c : Cpu) (i : Instruction) (k z : Bool) (ek : k ≡ isKcall (normal i)) (ez : z ≡ (confined && k)) (t : Journaled) where
-  abbrev done-as : Cpu → Tried
-  done-as d = tried (finished (traced (normal i)) d)
+  abbrev done-as : Cpu → Attempted
+  done-as d = acted (finished (traced (normal i)) d)
 
-  pub kcall-stops : (b : Bank) (q : Cache) → z ≡ true → gave (triedOut (answerOf 0x20) b q) t ≡ interpret logging (actOf confined c (meets i)) t
-  unfolding actOf tryActed interpret
+  pub kcall-stops : (b : Bank) (q : Cache) → z ≡ true → gave (attemptedOut (answerOf 0x20) b q) t ≡ interpret logging (actOf confined c (meets i)) t
+  unfolding actOf tryActed _>>=_ onward after interpret
   kcall-stops b q h =
       let l : confined ≡ true = and-left confined k (sym ez ∙ h) in
       let o : isKcall (normal i) ≡ true = sym ek ∙ and-right confined k (sym ez ∙ h) in
@@ -98,22 +95,22 @@ module _ (confined : Bool) (c : Cpu) (i : Instruction) (k z : Bool) (ek : k ≡ 
     where
       go : (f l : Bool) → l ≡ isKcall (normal i) → (f && l) ≡ false
           → interpret logging (actOf f c (meets i)) t ≡ gave (mapped done-as (interpret logging (execute c i) t .out)) (interpret logging (execute c i) t .world)
-      go true l el e = rw (sym el ∙ e) (renamed (execute c i) done-as t)
-      go false l el e = renamed-twice (execute c i) (λ d. finished (traced (normal i)) d) (λ a. tried a) t
+      go true l el e = rw (sym el ∙ e) (renamed-twice (execute c i) (λ d. tried (traced (normal i)) d) ofTried t)
+      go false l el e = renamed-twice (execute c i) (λ d. finished (traced (normal i)) d) (λ a. acted a) t
 
   module _ (x : ℕ) (b : Bank) (q : Cache) (u : Journaled) (e : gave (ended (answerOf x) b q) u ≡ interpret logging (execute c i) t) (h : z ≡ false) where
     mapped-out : gave (mapped done-as (ended (answerOf x) b q)) u ≡ interpret logging (actOf confined c (meets i)) t
     mapped-out = ap (λ (g : Gave Journaled (Out Cpu)). gave (mapped done-as (g .out)) (g .world)) e ∙ sym (meets-acted h)
 
-    pub instruction-stops : 2 ^ 32 ≤ x → gave (triedOut (answerOf x) b q) u ≡ interpret logging (actOf confined c (meets i)) t
+    pub instruction-stops : 2 ^ 32 ≤ x → gave (attemptedOut (answerOf x) b q) u ≡ interpret logging (actOf confined c (meets i)) t
     instruction-stops l = same ∙ mapped-out
       where
-        same : gave (triedOut (answerOf x) b q) u ≡ gave (mapped done-as (ended (answerOf x) b q)) u
+        same : gave (attemptedOut (answerOf x) b q) u ≡ gave (mapped done-as (ended (answerOf x) b q)) u
         same = rw (answer-high x l) refl
 
-    pub instruction-ends : x < 2 ^ 32 → (v : ℕ) → tracedFrom v ≡ traced (normal i) → v < 3 → gave (triedOut (answerOf v) b q) u ≡ interpret logging (actOf confined c (meets i)) t
+    pub instruction-ends : x < 2 ^ 32 → (v : ℕ) → tracedFrom v ≡ traced (normal i) → v < 3 → gave (attemptedOut (answerOf v) b q) u ≡ interpret logging (actOf confined c (meets i)) t
     unfolding answerOf
-    instruction-ends l v ev lv = ap (λ (o : Out Tried). gave o u) (answers-class v (traced (normal i)) b q ev lv) ∙ same ∙ mapped-out
+    instruction-ends l v ev lv = ap (λ (o : Out Attempted). gave o u) (answers-class v (traced (normal i)) b q ev lv) ∙ same ∙ mapped-out
       where
         same : gave (ok (done-as (cpu b q))) u ≡ gave (mapped done-as (ended (answerOf x) b q)) u
         same = simp (lt-ltb x (2 ^ 32) l)
@@ -121,26 +118,26 @@ module _ (confined : Bool) (c : Cpu) (i : Instruction) (k z : Bool) (ek : k ≡ 
 -- ---- an unimplemented instruction or a trap
 
 module _ (confined : Bool) (c : Cpu) (v : ℕ) (t : Journaled) where
-  pub unimplemented-stops : (b : Bank) (q : Cache) → confined ≡ true → gave (triedOut (answerOf 0x21) b q) t ≡ interpret logging (actOf confined c (vectored v)) t
-  unfolding actOf tryActed interpret
+  pub unimplemented-stops : (b : Bank) (q : Cache) → confined ≡ true → gave (attemptedOut (answerOf 0x21) b q) t ≡ interpret logging (actOf confined c (vectored v)) t
+  unfolding actOf tryActed _>>=_ onward after interpret
   unimplemented-stops b q h = rw (answer-got 0x21 (omega arith), h) refl
 
   module _ (x : ℕ) (b : Bank) (q : Cache) (u : Journaled) (e : gave (ended (answerOf x) b q) u ≡ interpret logging (unimplementedSequence c v) t) (h : confined ≡ false) where
-    sequenced-out : gave (mapped (λ d. tried (sequenced d)) (ended (answerOf x) b q)) u ≡ interpret logging (actOf confined c (vectored v)) t
+    sequenced-out : gave (mapped (λ d. acted (sequenced d)) (ended (answerOf x) b q)) u ≡ interpret logging (actOf confined c (vectored v)) t
     unfolding actOf act
     sequenced-out =
-        ap (λ (g : Gave Journaled (Out Cpu)). gave (mapped (λ d. tried (sequenced d)) (g .out)) (g .world)) e
-        ∙ sym (rw h (renamed-twice (unimplementedSequence c v) (λ d. sequenced d) (λ a. tried a) t))
+        ap (λ (g : Gave Journaled (Out Cpu)). gave (mapped (λ d. acted (sequenced d)) (g .out)) (g .world)) e
+        ∙ sym (rw h (renamed-twice (unimplementedSequence c v) (λ d. sequenced d) (λ a. acted a) t))
 
-    pub sequence-stops : 2 ^ 32 ≤ x → gave (triedOut (answerOf x) b q) u ≡ interpret logging (actOf confined c (vectored v)) t
+    pub sequence-stops : 2 ^ 32 ≤ x → gave (attemptedOut (answerOf x) b q) u ≡ interpret logging (actOf confined c (vectored v)) t
     sequence-stops l = same ∙ sequenced-out
       where
-        same : gave (triedOut (answerOf x) b q) u ≡ gave (mapped (λ d. tried (sequenced d)) (ended (answerOf x) b q)) u
+        same : gave (attemptedOut (answerOf x) b q) u ≡ gave (mapped (λ d. acted (sequenced d)) (ended (answerOf x) b q)) u
         same = rw (answer-high x l) refl
 
-    pub sequence-ends : x < 2 ^ 32 → gave (triedOut (answerOf 3) b q) u ≡ interpret logging (actOf confined c (vectored v)) t
+    pub sequence-ends : x < 2 ^ 32 → gave (attemptedOut (answerOf 3) b q) u ≡ interpret logging (actOf confined c (vectored v)) t
     unfolding answerOf
     sequence-ends l = same ∙ sequenced-out
       where
-        same : gave (triedOut (answerOf 3) b q) u ≡ gave (mapped (λ d. tried (sequenced d)) (ended (answerOf x) b q)) u
+        same : gave (attemptedOut (answerOf 3) b q) u ≡ gave (mapped (λ d. acted (sequenced d)) (ended (answerOf x) b q)) u
         same = simp (lt-ltb x (2 ^ 32) l)

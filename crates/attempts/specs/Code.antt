@@ -15,13 +15,24 @@ use Rattle.run.specs.Run.{Tried, tried, fetched, tryActed}
 
 -- ---- kinds 03 and 04 take the same attempt; a confined one stops at a KCALL or an unimplemented instruction
 
-unfoldable pub actOf : Bool → Cpu → Met → Program (Out Tried)
-actOf true c m = tryActed c m
+-- what it came to: an instruction or a sequence, or a confined stop's code
+pub data Attempted : Type 0 where
+  acted : Acted → Attempted
+  onlyFetched : ℕ → Attempted
+
+abbrev pub ofTried : Tried → Attempted
+ofTried (tried t c) = acted (finished t c)
+ofTried (fetched n) = onlyFetched n
+
+unfoldable pub actOf : Bool → Cpu → Met → Program (Out Attempted)
+actOf true c m = do
+  t ← tryActed c m
+  done (ofTried t)
 actOf false c m = do
   a ← act c m
-  done (tried a)
+  done (acted a)
 
-unfoldable pub attemptOf : Bool → Cpu → Program (Out Tried)
+unfoldable pub attemptOf : Bool → Cpu → Program (Out Attempted)
 attemptOf confined c = do
   m ← fetchInstruction c
   actOf confined c m
@@ -31,13 +42,23 @@ attemptOf confined c = do
 abbrev pub actedAs : ℕ → Cpu → Acted
 actedAs v c = cond (ltb v 3) (finished (tracedFrom v) c) (sequenced c)
 
+abbrev pub attemptedAs : ℕ → Cpu → Attempted
+attemptedAs v c = cond (ltb v 4) (acted (actedAs v c)) (onlyFetched v)
+
+-- a confined attempt takes no sequence
 abbrev pub triedAs : ℕ → Cpu → Tried
-triedAs v c = cond (ltb v 4) (tried (actedAs v c)) (fetched v)
+triedAs v c = cond (ltb v 3) (tried (tracedFrom v) c) (fetched v)
+
+-- an answer by one of these
+abbrev pub answered : {A : Type 0} → (ℕ → Cpu → A) → Answer → Bank → Cache → Out A
+answered f (got v) b q = ok (f v (cpu b q))
+answered f (bad e) b q = stop e (cpu b q)
+
+abbrev pub attemptedOut : Answer → Bank → Cache → Out Attempted
+attemptedOut x b q = answered attemptedAs x b q
 
 abbrev pub actedOut : Answer → Bank → Cache → Out Acted
-actedOut (got v) b q = ok (actedAs v (cpu b q))
-actedOut (bad e) b q = stop e (cpu b q)
+actedOut x b q = answered actedAs x b q
 
 abbrev pub triedOut : Answer → Bank → Cache → Out Tried
-triedOut (got v) b q = ok (triedAs v (cpu b q))
-triedOut (bad e) b q = stop e (cpu b q)
+triedOut x b q = answered triedAs x b q

@@ -26,7 +26,7 @@ ghost use Rattle.pending.specs.Traces.{tracedFrom};
 ghost use Rattle.exec.specs.Execute.{oneOperand, traced as tracedOf};
 ghost use Rattle.step.specs.Step.{meets, vectored, met};
 ghost use Rattle.run.specs.Run.{isKcall};
-ghost use Rattle.attempts.specs.Code.{actOf, attemptOf, triedOut};
+ghost use Rattle.attempts.specs.Code.{actOf, attemptOf, attemptedOut};
 
 fn kcalls(o: Monadic) -> bool
     ensures { λ x. ⌜ ((k : MonadicMode) (v : ℕ) → x ≡ isKcall (oneOperand o k v)) ⌝ }
@@ -73,7 +73,7 @@ fn act_on(
     confined: bool,
     i: Instruction,
 ) -> u64
-    ensures { λ x. ⌜ gave (triedOut (answerOf x) (now (r .exit)) (now (q .exit))) (journaled (now (m .exit)) (now (journal .exit))) ≡ interpret logging (actOf confined (cpu (now (r .entry)) (now (q .entry))) (meets i)) (journaled (now (m .entry)) (now (journal .entry))) ⌝ }
+    ensures { λ x. ⌜ gave (attemptedOut (answerOf x) (now (r .exit)) (now (q .exit))) (journaled (now (m .exit)) (now (journal .exit))) ≡ interpret logging (actOf confined (cpu (now (r .entry)) (now (q .entry))) (meets i)) (journaled (now (m .entry)) (now (journal .entry))) ⌝ }
 {
     let a = action_of(i);
     let n = length_of(i);
@@ -98,7 +98,7 @@ fn act_unimplemented(
     confined: bool,
     vector: u32,
 ) -> u64
-    ensures { λ x. ⌜ gave (triedOut (answerOf x) (now (r .exit)) (now (q .exit))) (journaled (now (m .exit)) (now (journal .exit))) ≡ interpret logging (actOf confined (cpu (now (r .entry)) (now (q .entry))) (vectored vector)) (journaled (now (m .entry)) (now (journal .entry))) ⌝ }
+    ensures { λ x. ⌜ gave (attemptedOut (answerOf x) (now (r .exit)) (now (q .exit))) (journaled (now (m .exit)) (now (journal .exit))) ≡ interpret logging (actOf confined (cpu (now (r .entry)) (now (q .entry))) (vectored vector)) (journaled (now (m .entry)) (now (journal .entry))) ⌝ }
 {
     if confined {
         return 0x21;
@@ -119,7 +119,7 @@ fn act_on_answer(
     confined: bool,
     a: Answer,
 ) -> u64
-    ensures { λ x. ⌜ gave (triedOut (answerOf x) (now (r .exit)) (now (q .exit))) (journaled (now (m .exit)) (now (journal .exit))) ≡ interpret logging (onward (actOf confined (cpu (now (r .entry)) (now (q .entry)))) (met (cpu (now (r .entry)) (now (q .entry))) a)) (journaled (now (m .entry)) (now (journal .entry))) ⌝ }
+    ensures { λ x. ⌜ gave (attemptedOut (answerOf x) (now (r .exit)) (now (q .exit))) (journaled (now (m .exit)) (now (journal .exit))) ≡ interpret logging (onward (actOf confined (cpu (now (r .entry)) (now (q .entry)))) (met (cpu (now (r .entry)) (now (q .entry))) a)) (journaled (now (m .entry)) (now (journal .entry))) ⌝ }
 {
     match a {
         Answer::Is(i) => act_on(m, journal, q, r, confined, i),
@@ -138,7 +138,7 @@ pub fn attempt(
     r: &mut [u32; 17],
     confined: bool,
 ) -> u64
-    ensures { λ x. ⌜ gave (triedOut (answerOf x) (now (r .exit)) (now (q .exit))) (journaled (now (m .exit)) (now (journal .exit))) ≡ interpret logging (attemptOf confined (cpu (now (r .entry)) (now (q .entry)))) (journaled (now (m .entry)) (now (journal .entry))) ⌝ }
+    ensures { λ x. ⌜ gave (attemptedOut (answerOf x) (now (r .exit)) (now (q .exit))) (journaled (now (m .exit)) (now (journal .exit))) ≡ interpret logging (attemptOf confined (cpu (now (r .entry)) (now (q .entry)))) (journaled (now (m .entry)) (now (journal .entry))) ⌝ }
 {
     let f = fetch_text(m, journal, r);
     if f.fault != 0 {

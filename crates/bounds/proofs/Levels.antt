@@ -14,11 +14,11 @@ use Rattle.program.specs.Access.{regimeOf}
 use Rattle.program.proofs.Bounded.{Bounded, bounded-more}
 use Rattle.machine.specs.Registers.{Bank, word, psw, stb}
 use Rattle.machine.specs.Status.{Cpu, isUser, isVirtual, regime}
-use Rattle.access.specs.Parts.{Out, ok, stop}
+use Rattle.access.specs.Parts.{Out}
 use Rattle.step.specs.Events.{looked}
-use Rattle.step.specs.Step.{finished, sequenced, traceFalls, stepped, timed}
-use Rattle.run.specs.Run.{Tried, tried, fetched, confinedAttempt}
-use Rattle.bounds.proofs.Within.{within-bounded, bounded-weaker}
+use Rattle.step.specs.Step.{traceFalls, stepped, timed}
+use Rattle.run.specs.Run.{Tried, confinedAttempt}
+use Rattle.bounds.proofs.Within.{within-bounded}
 use Rattle.bounds.proofs.Rules.{Rules, Answers, Alike, plainly}
 use Rattle.bounds.proofs.Steps.{Leaves, looked-holds, trace-holds, timed-holds, confined-part}
 
@@ -48,22 +48,9 @@ status-regime b v a =
     (set-word (λ (x : ℕ). bitOf x 10 ≡ bitOf (word b psw) 10) b psw v refl (a .bits 10 tt))
     (set-word (λ (x : ℕ). bitOf x 16 ≡ bitOf (word b psw) 16) b psw v refl (a .bits 16 tt))
 
--- the machines left have the regime of c
-abbrev pub Kept : Cpu → Out Tried → Type 0
-Kept c = Leaves (λ d. regime (d .bank) ≡ regime (c .bank))
-
--- the same, whatever was made of the instruction
+-- the machines left have a regime
 abbrev pub InRegime : Regime → Out Tried → Type 0
-InRegime r (ok (tried (finished t d))) = regime (d .bank) ≡ r
-InRegime r (ok (tried (sequenced d))) = regime (d .bank) ≡ r
-InRegime r (ok (fetched code)) = Unit {0}
-InRegime r (stop e d) = regime (d .bank) ≡ r
-
-kept-regime : (c : Cpu) (o : Out Tried) → Kept c o → InRegime (regime (c .bank)) o
-kept-regime c (ok (tried (finished t d))) h = h
-kept-regime c (ok (tried (sequenced d))) h = absurd h
-kept-regime c (ok (fetched code)) h = tt
-kept-regime c (stop e d) h = h
+InRegime r = Leaves (λ d. regime (d .bank) ≡ r)
 
 -- ---- the regime of a machine at user level
 
@@ -87,8 +74,8 @@ module _ (c : Cpu) (u : isUser (c .bank) ≡ true) where
       }
 
   -- every access of an attempt goes as the machine it began with has it
-  pub user-fixed : Bounded (λ q. regimeOf q ≡ regime (c .bank)) (Kept c) 75 (confinedAttempt c)
-  user-fixed = within-bounded (fixed .Asks) (Answers fixed) (Kept c) 75 (confinedAttempt c) (λ q r w. absurd w) (confined-part fixed c refl)
+  pub user-fixed : Bounded (λ q. regimeOf q ≡ regime (c .bank)) (InRegime (regime (c .bank))) 75 (confinedAttempt c)
+  user-fixed = within-bounded (fixed .Asks) (Answers fixed) (InRegime (regime (c .bank))) 75 (confinedAttempt c) (λ q r w. absurd w) (confined-part fixed c refl)
 
   -- and what a step does beside it keeps the regime: the look for events, the trace, the timers
   pub looked-kept : (level : ℕ) → regime (looked level c .bank) ≡ regime (c .bank)
@@ -100,6 +87,4 @@ module _ (c : Cpu) (u : isUser (c .bank) ≡ true) where
 -- as isolation asks for it
 pub user-fixed-most : (c : Cpu) → isUser (c .bank) ≡ true → isVirtual (c .bank) ≡ true
     → Bounded (λ q. regimeOf q ≡ regime (c .bank)) (InRegime (regime (c .bank))) 100 (confinedAttempt c)
-user-fixed-most c u v =
-    bounded-more _ (InRegime (regime (c .bank))) 75 100 (confinedAttempt c) (omega arith)
-    (bounded-weaker _ (Kept c) (InRegime (regime (c .bank))) 75 (confinedAttempt c) (kept-regime c) (user-fixed c u))
+user-fixed-most c u v = bounded-more _ (InRegime (regime (c .bank))) 75 100 (confinedAttempt c) (omega arith) (user-fixed c u)

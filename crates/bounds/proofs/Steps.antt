@@ -17,7 +17,7 @@ use Rattle.machine.specs.Status.{Cpu, reg, with, isUser}
 use Rattle.access.specs.Parts.{Out, ok, stop, resets}
 use Rattle.exec.specs.Frames.{exceptionSequence, reset}
 use Rattle.exec.specs.Execute.{normal}
-use Rattle.step.specs.Events.{Due, none, interrupt, timer1, timer2, trace, dueOf, looked, take, traceException}
+use Rattle.step.specs.Events.{Event, interrupt, timer1, timer2, trace, Due, none, due, dueOf, looked, take, traceException}
 use Rattle.step.specs.Timers.{counts1, counts2, ticked, counted}
 use Rattle.step.specs.Step.{Met, meets, vectored, met, fetchInstruction, Acted, finished, sequenced, act, attempt, tracesAt, traceFalls, Stepped, stepped, settled, eventStep, exceptionStep, finish, instructionStep, stepFor, step, timed}
 use Rattle.run.specs.Run.{Tried, tried, fetched, isKcall, tryActed, confinedAttempt}
@@ -43,14 +43,12 @@ abbrev pub SteppedHolds : Rules → Stepped → Type 0
 SteppedHolds k s = k .Holds (s .cpu)
 
 abbrev TriedHolds : Rules → Tried → Type 0
-TriedHolds k (tried (finished t c)) = k .Holds c
-TriedHolds k (tried (sequenced c)) = ⊥
+TriedHolds k (tried t c) = k .Holds c
 TriedHolds k (fetched code) = Unit
 
--- every machine that an attempt of a confined run leaves is in H, and no event sequence was made
+-- every machine that an attempt of a confined run leaves is in H
 abbrev pub Leaves : (Cpu → Type 0) → Out Tried → Type 0
-Leaves H (ok (tried (finished t c))) = H c
-Leaves H (ok (tried (sequenced c))) = ⊥
+Leaves H (ok (tried t c)) = H c
 Leaves H (ok (fetched code)) = Unit
 Leaves H (stop e c) = H c
 
@@ -68,14 +66,14 @@ module _ (k : Rules) where
   trace-holds true c h = k .plain c traceDue 1 tt h (λ _. lit< tt)
   trace-holds false c h = h
 
-  ticked-holds : (c : Cpu) (n due : ℕ) (on : Bool) → T (plainly n (plusOf (reg c n) 1)) → T (plainly due 1) → k .Holds c → k .Holds (ticked c n due on)
-  ticked-holds c n due on t u h = go (eqb (plusOf (reg c n) 1) 0 && on)
+  ticked-holds : (c : Cpu) (n mark : ℕ) (on : Bool) → T (plainly n (plusOf (reg c n) 1)) → T (plainly mark 1) → k .Holds c → k .Holds (ticked c n mark on)
+  ticked-holds c n mark on t u h = go (eqb (plusOf (reg c n) 1) 0 && on)
     where
       more-by-one : k .Holds (with c n (plusOf (reg c n) 1))
       more-by-one = k .plain c n _ t h (plus-value k (reg c n) 1)
 
-      go : (b : Bool) → k .Holds (cond b (with (with c n (plusOf (reg c n) 1)) due 1) (with c n (plusOf (reg c n) 1)))
-      go true = k .plain _ due 1 u more-by-one (λ _. lit< tt)
+      go : (b : Bool) → k .Holds (cond b (with (with c n (plusOf (reg c n) 1)) mark 1) (with c n (plusOf (reg c n) 1)))
+      go true = k .plain _ mark 1 u more-by-one (λ _. lit< tt)
       go false = more-by-one
 
   pub counted-holds : (config : ℕ) (kernel completed : Bool) (c : Cpu) → k .Holds c → k .Holds (counted config kernel completed c)
@@ -132,8 +130,7 @@ module _ (k : Rules) where
       tries = bind (fetch-part c h) λ m f. try-part c m h f
 
       leaves : (o : Out Tried) → Ends k (TriedHolds k) o → Leaves (k .Holds) o
-      leaves (ok (tried (finished t d))) g = g
-      leaves (ok (tried (sequenced d))) g = g
+      leaves (ok (tried t d)) g = g
       leaves (ok (fetched code)) g = tt
       leaves (stop e d) g = g
 
@@ -151,9 +148,8 @@ module _ (k : Rules) where
     settles n p l t =
         within-after (k .Asks) (Answers k) (SteppedHolds k) (Ends k (k .Holds)) n 0 4 p (λ o. ret (stepped (settled o) false)) (omega arith) (t .within) settled-holds
 
-    event-part : (c : Cpu) (d : Due) → k .Holds c → Stepping 4 (eventStep c d)
+    event-part : (c : Cpu) (e : Event) → k .Holds c → Stepping 4 (eventStep c e)
     unfolding eventStep take
-    event-part c none h = settles 3 _ (omega arith) (interrupt-part k free c 0 h)
     event-part c (interrupt n) h = settles 3 _ (omega arith) (interrupt-part k free _ (16 + 4 * n) (go (eqb n 0)))
       where
         go : (b : Bool) → k .Holds (cond b (with c nmiTaken 1) c)
@@ -183,15 +179,9 @@ module _ (k : Rules) where
         within-after (k .Asks) (Answers k) (SteppedHolds k) (Ends k (ActedHolds k)) 75 4 79 (attempt c) (finish (reg c psw)) (omega arith)
         (attempt-part c free h .within) (finish-part (reg c psw))
 
-    event : (d : Due) (c : Cpu) → k .Holds c → Stepping 79 (eventStep c d)
-    event d c h = within-more (k .Asks) (Answers k) (SteppedHolds k) 4 79 (eventStep c d) (omega arith) (event-part c d h)
-
     due-part : (d : Due) (c : Cpu) → k .Holds c → Stepping 79 (stepFor d c)
     due-part none c h = instruction-part c h
-    due-part (interrupt n) c h = event (interrupt n) c h
-    due-part timer1 c h = event timer1 c h
-    due-part timer2 c h = event timer2 c h
-    due-part trace c h = event trace c h
+    due-part (due e) c h = within-more (k .Asks) (Answers k) (SteppedHolds k) 4 79 (eventStep c e) (omega arith) (event-part c e h)
 
     pub step-part : (level : ℕ) (c : Cpu) → k .Holds c → Stepping 79 (step level c)
     unfolding step

@@ -59,10 +59,3 @@ pub interpret-keeps : {W A : Type 0} (h : Handler W) (I : W → Type 0) (p : Pro
 unfolding interpret
 interpret-keeps h I (ret a) w f i = i
 interpret-keeps h I (ask q k) w f i = interpret-keeps h I (k (h q w .out)) (h q w .world) f (f q w i)
-
--- another result of a bounded program
-pub bounded-weaker : {A : Type 0} (Q : Access → Type 0) (P S : A → Type 0) (n : ℕ) (p : Program A) → ((x : A) → P x → S x) → Bounded Q P n p
-    → Bounded Q S n p
-bounded-weaker Q P S n (ret a) w h = w a h
-bounded-weaker Q P S zero (ask q k) w h = absurd h
-bounded-weaker Q P S (suc n) (ask q k) w h = (h .0, λ r. bounded-weaker Q P S n (k r) w (h .1 r))

@@ -12,9 +12,9 @@ use Rattle.program.proofs.Bounded.{Bounded, bounded-result}
 use Rattle.machine.specs.Registers.{psw}
 use Rattle.machine.specs.Status.{Cpu, reg, regime}
 use Rattle.access.specs.Parts.{Out, ok, stop}
-use Rattle.step.specs.Events.{Due, none, interrupt, timer1, timer2, trace, dueOf, looked, dueCode}
-use Rattle.step.specs.Step.{finished, sequenced, tracesAt, traceFalls, stepped, timed, holdsStack}
-use Rattle.run.specs.Run.{Board, board, Turn, goes, ends, unlessLost, refused, eventDue, lostStack, Tried, tried, fetched, unimplementedCode, confinedAttempt, afterTry, tryTurn, confinedFor, confinedTurn}
+use Rattle.step.specs.Events.{Due, none, due, dueOf, looked, eventCode}
+use Rattle.step.specs.Step.{tracesAt, traceFalls, stepped, timed, holdsStack}
+use Rattle.run.specs.Run.{Board, board, Turn, goes, ends, unlessLost, refused, eventDue, lostStack, Tried, tried, fetched, confinedAttempt, afterTry, tryTurn, confinedFor, confinedTurn}
 use Rattle.bounds.proofs.Levels.{InRegime, looked-kept, timed-kept, user-fixed-most}
 use Rattle.isolation.specs.Isolation.{Same}
 use Rattle.isolation.proofs.Accesses.{Inv, access-twin}
@@ -45,11 +45,9 @@ module _ (H : ℕ → Type 0) (r : Regime) (a₀ b₀ : Board) where
     after-turns : (s c : Cpu) → regime (c .bank) ≡ r → {a b : Memory} → Pair (board s a) (board s b)
         → (o : Out Tried) → InRegime (regime (c .bank)) o → (x y : Memory) → Memories x y
         → Turns (afterTry (board s a) c o x) (afterTry (board s b) c o y)
-    after-turns s c e p (ok (tried (finished t d))) k x y i =
+    after-turns s c e p (ok (tried t d)) k x y i =
         let f = timed-kept c (ap (λ (z : Regime). z .user) e ∙ user) s d (tracesAt (reg c psw) t) true k in
         unless-turns (holdsStack d) p (both-go (pair (timed s (stepped (traceFalls (tracesAt (reg c psw) t) d) true)) x y (f ∙ e) i))
-    after-turns s c e p (ok (tried (sequenced d))) k x y i =
-        unless-turns (holdsStack d) p (both-end eventDue unimplementedCode (pair d x y (k ∙ e) i))
     after-turns s c e p (ok (fetched code)) k x y i = unless-turns (holdsStack c) p (both-end eventDue code (pair c x y e i))
     after-turns s c e p (stop n d) k x y i = unless-turns (holdsStack d) p (both-end eventDue n (pair d x y (k ∙ e) i))
 
@@ -79,10 +77,7 @@ module _ (H : ℕ → Type 0) (r : Regime) (a₀ b₀ : Board) where
     for-turns : (d : Due) (s c : Cpu) → regime (c .bank) ≡ r → (a b : Memory) → Pair (board s a) (board s b) → Memories a b
         → Turns (confinedFor d (board s a) c) (confinedFor d (board s b) c)
     for-turns none s c e a b p i = attempt-turns s c e a b p i
-    for-turns (interrupt n) s c e a b p i = both-end eventDue (dueCode (interrupt n)) (pair c a b e i)
-    for-turns timer1 s c e a b p i = both-end eventDue (dueCode timer1) (pair c a b e i)
-    for-turns timer2 s c e a b p i = both-end eventDue (dueCode timer2) (pair c a b e i)
-    for-turns trace s c e a b p i = both-end eventDue (dueCode trace) (pair c a b e i)
+    for-turns (due v) s c e a b p i = both-end eventDue (eventCode v) (pair c a b e i)
 
     pub turn-turns : (level : ℕ) {a b : Board} → Pair a b → Turns (confinedTurn level a) (confinedTurn level b)
     unfolding confinedTurn

@@ -14,16 +14,16 @@ use Rattle.machine.specs.Registers.{psw, goodBank, badRegister}
 use Rattle.machine.specs.Status.{Cpu, reg, isUser, isVirtual}
 use Rattle.access.specs.Parts.{Out, ok, stop, onward, _>>=_, done}
 use Rattle.exec.specs.Execute.{normal, execute, Traced, traced}
-use Rattle.step.specs.Events.{Due, none, interrupt, timer1, timer2, trace, dueOf, looked, dueCode}
-use Rattle.step.specs.Step.{Met, meets, vectored, fetchInstruction, Acted, finished, sequenced, act, attempt, tracesAt, traceFalls, stepped, finish, instructionStep, stepFor, step, timed, holdsStack}
-use Rattle.run.specs.Run.{Board, board, Turn, goes, ends, unlessLost, afterStep, turn, Tried, tried, fetched, kcallCode, unimplementedCode, isKcall, tryActed, confinedAttempt, afterTry, tryTurn, confinedFor, confinedTurn, Ended, budgetSpent, going, advance, refusal, badLevel, notConfined, unlessRefused, run}
+use Rattle.step.specs.Events.{Due, none, due, dueOf, looked, eventCode}
+use Rattle.step.specs.Step.{Met, meets, vectored, fetchInstruction, Acted, finished, act, attempt, tracesAt, traceFalls, stepped, finish, instructionStep, stepFor, step, timed, holdsStack}
+use Rattle.run.specs.Run.{Board, board, Turn, goes, ends, unlessLost, afterStep, turn, Tried, tried, fetched, kcallCode, isKcall, tryActed, confinedAttempt, afterTry, tryTurn, confinedFor, confinedTurn, Ended, budgetSpent, going, advance, refusal, badLevel, notConfined, unlessRefused, run}
 use Rattle.bounds.proofs.Held.{holds-traced}
 use Rattle.isolation.specs.Course.{Order, confined, course}
 use Rattle.isolation.proofs.Courses.{course-at, course-steps, course-spent}
 
 -- an attempt of either kind that ends in a finished instruction ends in it for the other
 abbrev Follows : Gave Memory (Out Tried) → Gave Memory (Out Acted) → Type 0
-Follows x y = (t : Traced) (d : Cpu) → x .out ≡ ok (tried (finished t d)) → y ≡ gave (ok (finished t d)) (x .world)
+Follows x y = (t : Traced) (d : Cpu) → x .out ≡ ok (tried t d) → y ≡ gave (ok (finished t d)) (x .world)
 
 act-follows : (c : Cpu) (k : Met) (m : Memory) → Follows (interpret plain (tryActed c k) m) (interpret plain (act c k) m)
 unfolding tryActed act _>>=_ onward interpret
@@ -31,7 +31,7 @@ act-follows c (vectored v) m = λ t d h. let z : _≡_ {A = ℕ} 0 1 = cc in abs
 act-follows c (meets i) m = go (isKcall (normal i))
   where
     ran : (o : Out Cpu) (w : Memory)
-        → Follows (interpret plain (onward (λ d. ret (ok (tried (finished (traced (normal i)) d)))) o) w)
+        → Follows (interpret plain (onward (λ d. ret (ok (tried (traced (normal i)) d))) o) w)
         (interpret plain (onward (λ d. done (finished (traced (normal i)) d)) o) w)
     ran (ok d) w t e h =
         let p : traced (normal i) ≡ t = cc in
@@ -40,12 +40,12 @@ act-follows c (meets i) m = go (isKcall (normal i))
     ran (stop n d) w t e h = let z : _≡_ {A = ℕ} 0 1 = cc in absurd (omega arith)
 
     go : (b : Bool) → Follows
-        (interpret plain (cond b (ret (ok (fetched kcallCode))) (execute c i >>= (λ d. ret (ok (tried (finished (traced (normal i)) d)))))) m)
+        (interpret plain (cond b (ret (ok (fetched kcallCode))) (execute c i >>= (λ d. ret (ok (tried (traced (normal i)) d))))) m)
         (interpret plain (execute c i >>= (λ d. done (finished (traced (normal i)) d))) m)
     go true = λ t d h. let z : _≡_ {A = ℕ} 0 1 = cc in absurd (omega arith)
     go false =
         rw (
-          interpret-after plain (execute c i) (onward (λ d. ret (ok (tried (finished (traced (normal i)) d))))) m,
+          interpret-after plain (execute c i) (onward (λ d. ret (ok (tried (traced (normal i)) d)))) m,
           interpret-after plain (execute c i) (onward (λ d. done (finished (traced (normal i)) d))) m,
         )
         (ran (interpret plain (execute c i) m .out) (interpret plain (execute c i) m .world))
@@ -77,8 +77,7 @@ module _ (s u : Board) (c : Cpu) where
     where
       go : (o : Out Tried) → g .out ≡ o → afterTry s c o (g .world) ≡ goes u
           → afterStep s (interpret plain (finish (reg c psw) (y .out)) (y .world)) ≡ goes u
-      go (ok (tried (finished t d))) e h = rw (f t d e, holds-traced (tracesAt (reg c psw) t) d) h
-      go (ok (tried (sequenced d))) e h = absurd (lost-never (holdsStack d) _ (ends-never 2 unimplementedCode (board d (g .world))) h)
+      go (ok (tried t d)) e h = rw (f t d e, holds-traced (tracesAt (reg c psw) t) d) h
       go (ok (fetched code)) e h = absurd (lost-never (holdsStack c) _ (ends-never 2 code (board c (g .world))) h)
       go (stop n d) e h = absurd (lost-never (holdsStack d) _ (ends-never 2 n (board d (g .world))) h)
 
@@ -87,10 +86,7 @@ module _ (s u : Board) (c : Cpu) where
   for-same none h =
       rw (interpret-after plain (attempt c) (finish (reg c psw)) (s .memory))
       (step-same (interpret plain (confinedAttempt c) (s .memory)) (interpret plain (attempt c) (s .memory)) (attempt-follows c (s .memory)) h)
-  for-same (interrupt n) h = absurd (ends-never 2 (dueCode (interrupt n)) (board c (s .memory)) h)
-  for-same timer1 h = absurd (ends-never 2 (dueCode timer1) (board c (s .memory)) h)
-  for-same timer2 h = absurd (ends-never 2 (dueCode timer2) (board c (s .memory)) h)
-  for-same trace h = absurd (ends-never 2 (dueCode trace) (board c (s .memory)) h)
+  for-same (due e) h = absurd (ends-never 2 (eventCode e) (board c (s .memory)) h)
 
 -- where a confined run takes a step, a run of kind 03 takes the same
 pub turn-same : (level : ℕ) (s u : Board) → confinedTurn level s ≡ goes u → turn level s ≡ goes u
@@ -110,18 +106,14 @@ module _ (s : Board) (c : Cpu) where
   lost-stops false t h = omega arith
 
   after-stops : (o : Out Tried) (m : Memory) → Stops (afterTry s c o m)
-  after-stops (ok (tried (finished t d))) m =
+  after-stops (ok (tried t d)) m =
       lost-stops (holdsStack d) (goes (board (timed (s .cpu) (stepped (traceFalls (tracesAt (reg c psw) t) d) true)) m)) tt
-  after-stops (ok (tried (sequenced d))) m = lost-stops (holdsStack d) (ends 2 unimplementedCode (board d m)) (omega arith)
   after-stops (ok (fetched code)) m = lost-stops (holdsStack c) (ends 2 code (board c m)) (omega arith)
   after-stops (stop n d) m = lost-stops (holdsStack d) (ends 2 n (board d m)) (omega arith)
 
   for-stops : (d : Due) → Stops (confinedFor d s c)
   for-stops none = after-stops (interpret plain (confinedAttempt c) (s .memory) .out) (interpret plain (confinedAttempt c) (s .memory) .world)
-  for-stops (interrupt n) = omega arith
-  for-stops timer1 = omega arith
-  for-stops timer2 = omega arith
-  for-stops trace = omega arith
+  for-stops (due e) = omega arith
 
 turn-stops : (level : ℕ) (s : Board) → Stops (confinedTurn level s)
 unfolding confinedTurn

@@ -12,9 +12,9 @@ use Rattle.word.specs.Sums.{plusOf}
 use Rattle.machine.specs.Registers.{Bank, word, traceDue, timer1Due, timer2Due, nmiTaken}
 use Rattle.machine.specs.Cache.{Cache}
 use Rattle.machine.specs.Status.{cpu}
-use Rattle.step.specs.Events.{none, interrupt, isDue, priority, dueOf, dueCode, looked}
+use Rattle.step.specs.Events.{none, isDue, priority, dueOf, looked}
 use Rattle.step.specs.Step.{traceFalls}
-use Rattle.pending.specs.Dues.{quietOf}
+use Rattle.pending.specs.Dues.{dueCode, quietOf}
 
 pub looks-other : (b : Bank) (q : Cache) (level : ℕ) → (level ≡ 0 → ⊥) → cpu (set b nmiTaken 0) q ≡ looked level (cpu b q)
 looks-other b q level h = simp (ne-eqb level 0 h)

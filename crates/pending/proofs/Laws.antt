@@ -1,4 +1,4 @@
--- Laws that other crates cite: numbers of what is due, and the sequence that takes it.
+-- Laws that other crates cite: numbers of what is due.
 -- Assumes nothing.
 use mathlib.Core.Path.{_≡_, refl, ap}
 use mathlib.Core.Bool.{Bool, true, false, cond, not, _&&_}
@@ -7,19 +7,17 @@ use native.Mathlib.Omega.{arith}
 use lib.Dec.{eqb, ltb, leb}
 use borrow.Author.Tests.{ne-eqb}
 use Rattle.machine.specs.Registers.{Bank, traceDue, timer1Due, timer2Due, nmiTaken}
-use Rattle.machine.specs.Status.{Cpu}
-use Rattle.exec.specs.Frames.{interruptSequence, exceptionSequence}
-use Rattle.step.specs.Events.{Due, none, interrupt, timer1, timer2, trace, isDue, priority, dueOf, dueCode, take, traceException}
-use Rattle.pending.specs.Dues.{dueFrom, takenOf, vectorOf, isTrace}
+use Rattle.step.specs.Events.{interrupt, timer1, timer2, trace, Due, none, due, isDue, priority, dueOf}
+use Rattle.pending.specs.Dues.{dueCode, dueFrom}
 use Rattle.pending.proofs.EventLaws.{asked}
 
 -- a number stands for what it is the number of
-code-level : (n : ℕ) → n ≤ 6 → dueFrom (0x10 + n) ≡ interrupt n
+code-level : (n : ℕ) → n ≤ 6 → dueFrom (0x10 + n) ≡ due (interrupt n)
 code-level n h =
     let e : 0x10 + n - 0x10 ≡ n = omega arith in
     simp
     (ne-eqb (0x10 + n) 0 (λ e. omega arith), ne-eqb (0x10 + n) 2 (λ e. omega arith), ne-eqb (0x10 + n) 0x17 (λ e. omega arith), ne-eqb (0x10 + n) 0x18 (λ e. omega arith))
-    (ap interrupt e)
+    (ap (λ (k : ℕ). due (interrupt k)) e)
 
 abbrev back : Due → Type 0
 back d = dueFrom (dueCode d) ≡ d
@@ -30,19 +28,9 @@ chosen false x y f g = g
 
 pub due-known : (level : ℕ) (b : Bank) → dueFrom (dueCode (dueOf level b)) ≡ dueOf level b
 due-known level b =
-    chosen (eqb level 0 && not (isDue b nmiTaken)) (interrupt 0) _ (λ e. refl)
-    (chosen (eqb level 1 && ltb 1 (priority b)) (interrupt 1) _ (λ e. refl)
-    (chosen (isDue b timer1Due && ltb 1 (priority b)) timer1 _ (λ e. refl)
-    (chosen (isDue b timer2Due && ltb 1 (priority b)) timer2 _ (λ e. refl)
-    (chosen (leb 2 level && leb level 6 && ltb level (priority b)) (interrupt level) _ (λ e. code-level level (asked level (priority b) e))
-    (chosen (isDue b traceDue) trace none (λ e. refl) refl)))))
-
--- the sequence of an event, by its parts
-pub taken-by : (c : Cpu) (d : Due)
-    → take c d ≡ cond (isTrace d) (exceptionSequence (takenOf d c) traceException) (interruptSequence (takenOf d c) (vectorOf d))
-unfolding take
-taken-by c none = refl
-taken-by c (interrupt n) = refl
-taken-by c timer1 = refl
-taken-by c timer2 = refl
-taken-by c trace = refl
+    chosen (eqb level 0 && not (isDue b nmiTaken)) (due (interrupt 0)) _ (λ e. refl)
+    (chosen (eqb level 1 && ltb 1 (priority b)) (due (interrupt 1)) _ (λ e. refl)
+    (chosen (isDue b timer1Due && ltb 1 (priority b)) (due timer1) _ (λ e. refl)
+    (chosen (isDue b timer2Due && ltb 1 (priority b)) (due timer2) _ (λ e. refl)
+    (chosen (leb 2 level && leb level 6 && ltb level (priority b)) (due (interrupt level)) _ (λ e. code-level level (asked level (priority b) e))
+    (chosen (isDue b traceDue) (due trace) none (λ e. refl) refl)))))

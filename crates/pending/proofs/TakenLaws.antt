@@ -10,29 +10,26 @@ use Rattle.laws.proofs.Cases.{by-test}
 use Rattle.machine.specs.Registers.{Bank, traceDue, timer1Due, timer2Due, nmiTaken}
 use Rattle.machine.specs.Cache.{Cache}
 use Rattle.machine.specs.Status.{cpu}
-use Rattle.step.specs.Events.{Due, none, interrupt}
-use Rattle.pending.specs.Dues.{dueFrom, takenOf, vectorOf}
+use Rattle.step.specs.Events.{Event, interrupt}
+use Rattle.pending.specs.Dues.{eventFrom, takenOf, vectorOf}
 
--- a number that is none of the four
-level-of : (k : ℕ) → (k ≡ 0 → ⊥) → (k ≡ 2 → ⊥) → (k ≡ 0x17 → ⊥) → (k ≡ 0x18 → ⊥) → dueFrom k ≡ interrupt (k - 0x10)
-level-of k a b c d = simp (ne-eqb k 0 a, ne-eqb k 2 b, ne-eqb k 0x17 c, ne-eqb k 0x18 d)
+-- a number that is none of the three
+level-of : (k : ℕ) → (k ≡ 2 → ⊥) → (k ≡ 0x17 → ⊥) → (k ≡ 0x18 → ⊥) → eventFrom k ≡ interrupt (k - 0x10)
+level-of k b c d = simp (ne-eqb k 2 b, ne-eqb k 0x17 c, ne-eqb k 0x18 d)
 
--- below 16 a number that is neither 0 nor 2 is of level 0
-level-zero : (k : ℕ) → k ≤ 16 → (k ≡ 0 → ⊥) → (k ≡ 2 → ⊥) → dueFrom k ≡ interrupt 0
-level-zero k h a b =
+-- up to 16 a number that is not 2 is of level 0
+level-zero : (k : ℕ) → k ≤ 16 → (k ≡ 2 → ⊥) → eventFrom k ≡ interrupt 0
+level-zero k h b =
     let e : k - 0x10 ≡ 0 = omega arith in
-    level-of k a b (λ f. omega arith) (λ f. omega arith) ∙ ap interrupt e
+    level-of k b (λ f. omega arith) (λ f. omega arith) ∙ ap interrupt e
 
-pub vector-none : (k : ℕ) → k ≡ 0 → 0 ≡ vectorOf (dueFrom k)
-vector-none k e = rw e
-
-pub vector-trace : (k : ℕ) → k ≡ 2 → 4 ≡ vectorOf (dueFrom k)
+pub vector-trace : (k : ℕ) → k ≡ 2 → 4 ≡ vectorOf (eventFrom k)
 vector-trace k e = rw e
 
-pub vector-zero : (k : ℕ) → k < 16 → (k ≡ 0 → ⊥) → (k ≡ 2 → ⊥) → 16 ≡ vectorOf (dueFrom k)
-vector-zero k h a b = sym (ap vectorOf (level-zero k (omega arith) a b))
+pub vector-zero : (k : ℕ) → k < 16 → (k ≡ 2 → ⊥) → 16 ≡ vectorOf (eventFrom k)
+vector-zero k h b = sym (ap vectorOf (level-zero k (omega arith) b))
 
-pub vector-high : (k : ℕ) → 16 ≤ k → k * 4 - 48 ≡ vectorOf (dueFrom k)
+pub vector-high : (k : ℕ) → 16 ≤ k → k * 4 - 48 ≡ vectorOf (eventFrom k)
 vector-high k h =
     by-test (eqb k 0x17)
     (λ e. rw (eqb-true k 0x17 e))
@@ -41,24 +38,21 @@ vector-high k h =
     (λ f. rw (eqb-true k 0x18 f))
     (λ f.
     let g : k * 4 - 48 ≡ 16 + 4 * (k - 0x10) = omega arith in
-    g ∙ sym (ap vectorOf (level-of k (λ i. omega arith) (λ i. omega arith) (eqb-false k 0x17 e) (eqb-false k 0x18 f)))))
+    g ∙ sym (ap vectorOf (level-of k (λ i. omega arith) (eqb-false k 0x17 e) (eqb-false k 0x18 f)))))
 
 module _ (b : Bank) (q : Cache) (k : ℕ) where
-  pub takes-trace : k ≡ 2 → cpu (set b traceDue 0) q ≡ takenOf (dueFrom k) (cpu b q)
+  pub takes-trace : k ≡ 2 → cpu (set b traceDue 0) q ≡ takenOf (eventFrom k) (cpu b q)
   takes-trace e = rw e
 
-  pub takes-zero : k ≤ 16 → (k ≡ 2 → ⊥) → (k ≡ 0 → ⊥) → cpu (set b nmiTaken 1) q ≡ takenOf (dueFrom k) (cpu b q)
-  takes-zero h a c = sym (ap (λ (d : Due). takenOf d (cpu b q)) (level-zero k h c a))
+  pub takes-zero : k ≤ 16 → (k ≡ 2 → ⊥) → cpu (set b nmiTaken 1) q ≡ takenOf (eventFrom k) (cpu b q)
+  takes-zero h a = sym (ap (λ (d : Event). takenOf d (cpu b q)) (level-zero k h a))
 
-  pub takes-none : k ≡ 0 → cpu b q ≡ takenOf (dueFrom k) (cpu b q)
-  takes-none e = rw e
-
-  pub takes-timer1 : k ≡ 0x17 → cpu (set b timer1Due 0) q ≡ takenOf (dueFrom k) (cpu b q)
+  pub takes-timer1 : k ≡ 0x17 → cpu (set b timer1Due 0) q ≡ takenOf (eventFrom k) (cpu b q)
   takes-timer1 e = rw e
 
-  pub takes-timer2 : k ≡ 0x18 → cpu (set b timer2Due 0) q ≡ takenOf (dueFrom k) (cpu b q)
+  pub takes-timer2 : k ≡ 0x18 → cpu (set b timer2Due 0) q ≡ takenOf (eventFrom k) (cpu b q)
   takes-timer2 e = rw e
 
-  pub takes-level : (k ≡ 0x17 → ⊥) → (k ≡ 0x18 → ⊥) → 16 < k → cpu b q ≡ takenOf (dueFrom k) (cpu b q)
+  pub takes-level : (k ≡ 0x17 → ⊥) → (k ≡ 0x18 → ⊥) → 16 < k → cpu b q ≡ takenOf (eventFrom k) (cpu b q)
   takes-level c d h =
-      simp (level-of k (λ e. omega arith) (λ e. omega arith) c d, ne-eqb (k - 0x10) 0 (λ e. omega arith))
+      simp (level-of k (λ e. omega arith) c d, ne-eqb (k - 0x10) 0 (λ e. omega arith))

@@ -2,13 +2,13 @@
 use bits::field;
 use word::sums::plus;
 ghost use mathlib.Core.Path.{_≡_};
-ghost use Prim.Native.Nat.{_%_, _<_, _≤_};
+ghost use Prim.Native.Nat.{_%_, _≤_};
 ghost use Rattle.bits.specs.Bits.{fieldOf};
 ghost use Rattle.machine.specs.Cache.{Cache};
 ghost use Rattle.machine.specs.Status.{cpu};
-ghost use Rattle.step.specs.Events.{dueOf, dueCode, looked as lookedOf};
+ghost use Rattle.step.specs.Events.{dueOf, looked as lookedOf};
 ghost use Rattle.step.specs.Step.{traceFalls};
-ghost use Rattle.pending.specs.Dues.{quietOf, dueFrom, takenOf, vectorOf};
+ghost use Rattle.pending.specs.Dues.{dueCode, quietOf, eventFrom, takenOf, vectorOf};
 
 // A look that finds another level ends the wait of input 0.
 pub fn looked(b: &mut [u32; 17], level: u32)
@@ -81,43 +81,34 @@ pub fn due_code(b: &[u32; 17], level: u32) -> u32
     }
 }
 
-// A trace, nothing, or what else stands for an interrupt of level 0.
-fn low_vector(k: u32) -> u32
-    requires { ⌜ k < 16 ⌝ }
-    ensures { λ r. ⌜ r ≡ vectorOf (dueFrom k) ⌝ }
+// The vector's place for an event; only the low five bits of its number are used. Below 16 a number is the trace's, or
+// stands for an interrupt of level 0.
+pub fn vector_of(code: u32) -> u32
+    ensures { λ r. ⌜ r ≡ vectorOf (eventFrom (code % 32)) ⌝ }
 {
-    if k == 0 {
-        0
-    } else {
+    let k = code % 32;
+    if k < 16 {
         if k == 2 { 4 } else { 16 }
+    } else {
+        k * 4 - 48
     }
 }
 
-// The vector's place for what is due; only the low five bits of its number are used.
-pub fn vector_of(code: u32) -> u32
-    ensures { λ r. ⌜ r ≡ vectorOf (dueFrom (code % 32)) ⌝ }
-{
-    let k = code % 32;
-    if k < 16 { low_vector(k) } else { k * 4 - 48 }
-}
-
-// The trace, nothing, or input 0.
+// The trace, or input 0.
 fn low_taken(b: &mut [u32; 17], code: u32)
     requires { ⌜ code ≤ 16 ⌝ }
-    ensures { λ r. ⌜ ((q : Cache) → cpu (now (b .exit)) q ≡ takenOf (dueFrom code) (cpu (now (b .entry)) q)) ⌝ }
+    ensures { λ r. ⌜ ((q : Cache) → cpu (now (b .exit)) q ≡ takenOf (eventFrom code) (cpu (now (b .entry)) q)) ⌝ }
 {
     if code == 2 {
         b[13] = 0;
     } else {
-        if code != 0 {
-            b[16] = 1;
-        }
+        b[16] = 1;
     }
 }
 
 // What is taken is no longer due.
 pub fn taken(b: &mut [u32; 17], code: u32)
-    ensures { λ r. ⌜ ((q : Cache) → cpu (now (b .exit)) q ≡ takenOf (dueFrom code) (cpu (now (b .entry)) q)) ⌝ }
+    ensures { λ r. ⌜ ((q : Cache) → cpu (now (b .exit)) q ≡ takenOf (eventFrom code) (cpu (now (b .entry)) q)) ⌝ }
 {
     if code == 0x17 {
         b[14] = 0;

@@ -12,13 +12,13 @@ use Rattle.program.proofs.Interpret.{interpret-after}
 use Rattle.machine.specs.Registers.{Bank, word, config, psw, sp, msp, nmiTaken, stackHeld}
 use Rattle.machine.specs.Cache.{Cache}
 use Rattle.machine.specs.Status.{Cpu, cpu, isUser}
-use Rattle.access.specs.Parts.{Out, ok, _>>=_, done}
+use Rattle.access.specs.Parts.{Out, ok, done}
 use Rattle.exec.specs.Execute.{normal, execute, Traced, always, atJumps, never, traced}
-use Rattle.step.specs.Events.{Due, none, dueOf, dueCode, looked}
+use Rattle.step.specs.Events.{Due, dueOf, looked}
 use Rattle.step.specs.Timers.{counted}
 use Rattle.step.specs.Step.{meets, Acted, finished, fetchInstruction, act, attempt, tracesAt, traceFalls, Stepped, stepped, finish, instructionStep, stepFor, step, timed, holdsStack}
 use Rattle.run.specs.Run.{board, goes, unlessLost, afterStep, turn, Tried, tried, tryActed, confinedAttempt, tryTurn, confinedFor, confinedTurn, turnOf}
-use Rattle.pending.specs.Dues.{dueFrom}
+use Rattle.pending.specs.Dues.{dueCode, dueFrom}
 use Rattle.pending.proofs.Laws.{due-known}
 use Rattle.quick_dyadic.specs.Quick.{gives}
 use Rattle.quick.specs.Performed.{Performed, Calm}
@@ -37,14 +37,11 @@ or-right true b h = not-both (sym h)
 pub calm-so : (level : ℕ) (b : Bank) → (level ≡ 0 → ⊥) → word b nmiTaken ≡ 0 → (u v : Bool) → u ≡ bitOf (word b psw) 7 → v ≡ bitOf (word b psw) 8 → (u || v) ≡ false
     → (t : Bool) → t ≡ stackHeld (word b sp) (word b msp) → t ≡ true → (k : ℕ) → k ≡ dueCode (dueOf level b) → k ≡ 0 → Calm level b
 calm-so level b h g u v eu ev i t et j k ek l =
-    record { asked = h; unmarked = g; idle = sym ek ∙ l; untraced = sym eu ∙ or-left u v i; unjumped = sym ev ∙ or-right u v i; held = sym et ∙ j }
+    record { asked = h; unmarked = g; idle = sym (due-known level b) ∙ ap dueFrom (sym ek ∙ l); untraced = sym eu ∙ or-left u v i; unjumped = sym ev ∙ or-right u v i; held = sym et ∙ j }
 
 module _ (level : ℕ) (b : Bank) (q : Cache) (calm : Calm level b) where
   looked-same : looked level (cpu b q) ≡ cpu b q
   looked-same = rw (ne-eqb level 0 (calm .asked)) (ap (λ (d : Bank). cpu d q) (set-same b nmiTaken 0 (calm .unmarked)))
-
-  nothing-due : dueOf level b ≡ none
-  nothing-due = sym (due-known level b) ∙ ap dueFrom (calm .idle)
 
 -- ---- the instruction
 
@@ -65,15 +62,15 @@ module _ (c d : Cpu) (m n : Memory) (w : Performed c m d n) where
   unfolding attempt
   attempted = gives-then (fetchInstruction c) (λ i. act c i) m m n (meets (w .instruction)) (finished kind d) (w .fetched) acted
 
-  tried-so : gives (tryActed c (meets (w .instruction))) m (tried (finished kind d)) n
+  tried-so : gives (tryActed c (meets (w .instruction))) m (tried kind d) n
   unfolding tryActed
   tried-so =
       rw (w .went .free)
-      (gives-then (execute c (w .instruction)) (λ e. ret (ok (tried (finished kind e)))) m n n d (tried (finished kind d)) (w .went .executed) (gives-done (done (tried (finished kind d))) (tried (finished kind d)) refl n))
+      (gives-then (execute c (w .instruction)) (λ e. ret (ok (tried kind e))) m n n d (tried kind d) (w .went .executed) (gives-done (done (tried kind d)) (tried kind d) refl n))
 
-  confined-so : gives (confinedAttempt c) m (tried (finished kind d)) n
+  confined-so : gives (confinedAttempt c) m (tried kind d) n
   unfolding confinedAttempt
-  confined-so = gives-then (fetchInstruction c) (λ i. tryActed c i) m m n (meets (w .instruction)) (tried (finished kind d)) (w .fetched) tried-so
+  confined-so = gives-then (fetchInstruction c) (λ i. tryActed c i) m m n (meets (w .instruction)) (tried kind d) (w .fetched) tried-so
 
 -- ---- the turn: e is the bank after the instruction, f with the timers too
 
@@ -97,7 +94,7 @@ module _ (level : ℕ) (b e f : Bank) (q s : Cache) (m n : Memory) (calm : Calm 
   unfolding step instructionStep finish interpret
   stepped-so =
       ap (λ (z : Cpu). interpret plain (stepFor (dueOf level (z .bank)) z) m) (looked-same level b q calm)
-      ∙ ap (λ (z : Due). interpret plain (stepFor z c) m) (nothing-due level b q calm)
+      ∙ ap (λ (z : Due). interpret plain (stepFor z c) m) (calm .idle)
       ∙ interpret-after plain (attempt c) (finish (word b psw)) m
       ∙ ap (λ (g : Gave Memory (Out Acted)). interpret plain (finish (word b psw) (g .out)) (g .world)) (attempted c d m n w)
       ∙ ap (λ (z : Cpu). gave (stepped z true) n) no-trace
@@ -113,7 +110,7 @@ module _ (level : ℕ) (b e f : Bank) (q s : Cache) (m n : Memory) (calm : Calm 
   unfolding confinedTurn
   confined-goes =
       ap (λ (z : Cpu). confinedFor (dueOf level (z .bank)) (board c m) z) (looked-same level b q calm)
-      ∙ ap (λ (z : Due). confinedFor z (board c m) c) (nothing-due level b q calm)
+      ∙ ap (λ (z : Due). confinedFor z (board c m) c) (calm .idle)
       ∙ ap (λ (g : Gave Memory (Out Tried)). tryTurn (board c m) c g) (confined-so c d m n w)
       ∙ ap (λ (h : Bool). unlessLost h (board c m) (goes (board (timed c (stepped (traceFalls (tracesAt (word b psw) (kind c d m n w)) d) true)) n))) stack-held
       ∙ ap (λ (z : Cpu). goes (board (timed c (stepped z true)) n)) no-trace

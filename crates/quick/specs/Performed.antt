@@ -16,7 +16,7 @@ use Rattle.machine.specs.Registers.{Bank, word, psw, sp, msp, nmiTaken, stackHe
 use Rattle.machine.specs.Status.{Cpu}
 use Rattle.access.specs.Text.{following}
 use Rattle.exec.specs.Execute.{normal, executeNormal, execute}
-use Rattle.step.specs.Events.{dueOf, dueCode}
+use Rattle.step.specs.Events.{none, dueOf}
 use Rattle.step.specs.Step.{meets, fetchInstruction, holdsStack}
 use Rattle.run.specs.Run.{isKcall}
 use Rattle.plans.specs.declared.Plan.{Plan}
@@ -61,7 +61,7 @@ pub record Performed (c : Cpu) (m : Memory) (d : Cpu) (n : Memory) : Type 0 wher
 pub record Calm (level : ℕ) (b : Bank) : Type 0 where
   pub asked : level ≡ 0 → ⊥
   pub unmarked : word b nmiTaken ≡ 0
-  pub idle : dueCode (dueOf level b) ≡ 0
+  pub idle : dueOf level b ≡ none
   pub untraced : bitOf (word b psw) 7 ≡ false
   pub unjumped : bitOf (word b psw) 8 ≡ false
   pub held : stackHeld (word b sp) (word b msp) ≡ true

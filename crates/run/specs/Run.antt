@@ -12,9 +12,9 @@ use Rattle.machine.specs.Status.{Cpu, reg, isUser, isVirtual}
 use Rattle.access.specs.Parts.{Out, ok, stop, _>>=_}
 use Rattle.exec.specs.declared.Monadic.{Monadic}
 use Rattle.exec.specs.declared.Monadic.the-variants as monadic
-use Rattle.exec.specs.Execute.{Normal, twoOperands, oneOperand, noOperand, normal, execute, traced}
-use Rattle.step.specs.Events.{Due, none, interrupt, timer1, timer2, trace, dueOf, looked, dueCode}
-use Rattle.step.specs.Step.{Met, meets, vectored, fetchInstruction, Acted, finished, sequenced, tracesAt, traceFalls, Stepped, stepped, step, timed, holdsStack}
+use Rattle.exec.specs.Execute.{Normal, twoOperands, oneOperand, noOperand, normal, execute, Traced, traced}
+use Rattle.step.specs.Events.{Due, none, due, dueOf, looked, eventCode}
+use Rattle.step.specs.Step.{Met, meets, vectored, fetchInstruction, tracesAt, traceFalls, Stepped, stepped, step, timed, holdsStack}
 
 -- a machine with its lent memory
 pub record Board : Type 0 where
@@ -58,7 +58,7 @@ turn level s = afterStep s (interpret plain (step level (s .cpu)) (s .memory))
 
 -- document 01: "20 KCALL, 21 unimplemented; a KCALL or unimplemented instruction has only been fetched"
 pub data Tried : Type 0 where
-  tried : Acted → Tried
+  tried : Traced → Cpu → Tried
   fetched : ℕ → Tried
 
 abbrev pub kcallCode : ℕ
@@ -87,7 +87,7 @@ isKcall (noOperand o) = false
 
 unfoldable pub tryActed : Cpu → Met → Program (Out Tried)
 tryActed c (meets i) =
-    cond (isKcall (normal i)) (ret (ok (fetched kcallCode))) (execute c i >>= (λ d. ret (ok (tried (finished (traced (normal i)) d)))))
+    cond (isKcall (normal i)) (ret (ok (fetched kcallCode))) (execute c i >>= (λ d. ret (ok (tried (traced (normal i)) d))))
 tryActed c (vectored v) = ret (ok (fetched unimplementedCode))
 
 unfoldable pub confinedAttempt : Cpu → Program (Out Tried)
@@ -96,9 +96,8 @@ confinedAttempt c = do
   tryActed c m
 
 abbrev pub afterTry : Board → Cpu → Out Tried → Memory → Turn
-afterTry s c (ok (tried (finished t d))) m =
+afterTry s c (ok (tried t d)) m =
     unlessLost (holdsStack d) s (goes (board (timed (s .cpu) (stepped (traceFalls (tracesAt (reg c psw) t) d) true)) m))
-afterTry s c (ok (tried (sequenced d))) m = unlessLost (holdsStack d) s (ends eventDue unimplementedCode (board d m))
 afterTry s c (ok (fetched code)) m = unlessLost (holdsStack c) s (ends eventDue code (board c m))
 afterTry s c (stop e d) m = unlessLost (holdsStack d) s (ends eventDue e (board d m))
 
@@ -107,10 +106,7 @@ tryTurn s c g = afterTry s c (g .out) (g .world)
 
 abbrev pub confinedFor : Due → Board → Cpu → Turn
 confinedFor none s c = tryTurn s c (interpret plain (confinedAttempt c) (s .memory))
-confinedFor (interrupt n) s c = ends eventDue (dueCode (interrupt n)) (board c (s .memory))
-confinedFor timer1 s c = ends eventDue (dueCode timer1) (board c (s .memory))
-confinedFor timer2 s c = ends eventDue (dueCode timer2) (board c (s .memory))
-confinedFor trace s c = ends eventDue (dueCode trace) (board c (s .memory))
+confinedFor (due e) s c = ends eventDue (eventCode e) (board c (s .memory))
 
 unfoldable pub confinedTurn : ℕ → Board → Turn
 confinedTurn level s = confinedFor (dueOf level (looked level (s .cpu) .bank)) s (looked level (s .cpu))

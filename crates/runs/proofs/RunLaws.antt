@@ -18,8 +18,8 @@ use Rattle.machine.specs.Record.{dues, bankOf, cpuOf, machineOf}
 use Rattle.machine.proofs.RecordLaws.{bank-shape, cpu-machine}
 use Rattle.machine.proofs.Flat.{shape-quads}
 use Rattle.access.specs.Parts.{Out, ok, stop}
-use Rattle.step.specs.Events.{Due, none, interrupt, timer1, timer2, trace, dueOf, looked}
-use Rattle.step.specs.Step.{finished, sequenced, tracesAt, traceFalls, stepped, step, holdsStack}
+use Rattle.step.specs.Events.{Due, none, due, dueOf, looked}
+use Rattle.step.specs.Step.{tracesAt, traceFalls, stepped, step, holdsStack}
 use Rattle.run.specs.Run.{Board, board, Turn, goes, ends, unlessLost, turn, Tried, tried, fetched, confinedAttempt, afterTry, confinedFor, confinedTurn, turnOf, Ended, ended, going, advance, refusal, unlessRefused, run}
 use Rattle.bounds.proofs.Within.{Any}
 use Rattle.bounds.proofs.Steps.{Leaves}
@@ -122,9 +122,8 @@ turn-shapes level s h =
     (bounded-result plain Any (λ x. Shaped (x .cpu)) 79 (step level (s .cpu)) (s .memory) (step-shaped level (s .cpu) h)))
 
 try-shapes : (s : Board) (c : Cpu) (o : Out Tried) (m : Memory) → Shaped (s .cpu) → Shaped c → Leaves Shaped o → Shapes (afterTry s c o m)
-try-shapes s c (ok (tried (finished t d))) m h k l =
+try-shapes s c (ok (tried t d)) m h k l =
     lost-shapes (holdsStack d) s _ h (timed-shaped (s .cpu) (stepped (traceFalls (tracesAt _ t) d) true) (trace-shaped (tracesAt _ t) d l))
-try-shapes s c (ok (tried (sequenced d))) m h k l = absurd l
 try-shapes s c (ok (fetched n)) m h k l = lost-shapes (holdsStack c) s _ h k
 try-shapes s c (stop e d) m h k l = lost-shapes (holdsStack d) s _ h l
 
@@ -142,10 +141,7 @@ confined-shapes level s h = go (dueOf level (looked level (s .cpu) .bank))
     go none =
         try-shapes s c (interpret plain (confinedAttempt c) (s .memory) .out) (interpret plain (confinedAttempt c) (s .memory) .world) h k
         (bounded-result plain Any (Leaves Shaped) 75 (confinedAttempt c) (s .memory) (confined-shaped c k))
-    go (interrupt n) = k
-    go timer1 = k
-    go timer2 = k
-    go trace = k
+    go (due e) = k
 
 one-shapes : (confined : Bool) (level : ℕ) (s : Board) → Shaped (s .cpu) → Shapes (turnOf confined level s)
 one-shapes true level s h = confined-shapes level s h

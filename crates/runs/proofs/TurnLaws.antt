@@ -5,10 +5,10 @@ use mathlib.Core.Path.{_≡_, refl, sym, ap, _∙_}
 use mathlib.Core.Bool.{Bool, true, false, not}
 use native.Mathlib.Omega.{arith}
 use lib.ListN.{set, length, length-set}
-use borrow.Author.Tests.{ne-eqb, le-ltb}
-use Rattle.memory.specs.Answers.{answerOf}
+use borrow.Author.Tests.{ne-eqb, lt-ltb, le-ltb}
+use Rattle.memory.specs.Answers.{Answer, answerOf}
 use Rattle.memory.specs.Bytes.{Memory}
-use Rattle.memory.proofs.AnswerLaws.{answer-got}
+use Rattle.memory.proofs.AnswerLaws.{answer-got, answer-high}
 use Rattle.program.specs.Access.{Gave, gave}
 use Rattle.program.specs.Program.{interpret}
 use Rattle.program.specs.Journal.{Journal, undo, journaled, logging}
@@ -16,18 +16,17 @@ use Rattle.program.proofs.Bytes.{Bytes}
 use Rattle.machine.specs.Registers.{Bank, word, config, psw}
 use Rattle.machine.specs.Cache.{Cache}
 use Rattle.machine.specs.Status.{Cpu, cpu, isUser}
-use Rattle.access.specs.Parts.{Out, ok, stop}
+use Rattle.access.specs.Parts.{Out, ok}
 use Rattle.pending.specs.Traces.{tracedFrom}
-use Rattle.step.specs.Events.{Due, trace, dueOf, dueCode, looked}
+use Rattle.step.specs.Events.{Due, dueOf, eventCode, looked}
 use Rattle.step.specs.Timers.{counted}
-use Rattle.step.specs.Step.{finished, sequenced, tracesAt, traceFalls, Stepped, stepped, step, holdsStack}
+use Rattle.step.specs.Step.{tracesAt, traceFalls, Stepped, stepped, step, holdsStack}
 use Rattle.run.specs.Run.{Board, board, Turn, goes, ends, eventDue, unlessLost, afterStep, turn, Tried, tried, fetched, confinedAttempt, afterTry, tryTurn, confinedFor, confinedTurn, turnOf}
-use Rattle.pending.specs.Dues.{dueFrom}
+use Rattle.pending.specs.Dues.{dueCode, eventFrom, dueFrom}
 use Rattle.control.proofs.FlowLaws.{Made}
-use Rattle.attempts.specs.Code.{attemptOf, triedOut}
-use Rattle.attempts.proofs.ActLaws.{answers-class, answers-stop}
+use Rattle.attempts.specs.Code.{attemptOf, attemptedOut, triedOut}
 use Rattle.attempts.proofs.AttemptLaws.{confined-attempted}
-use Rattle.steps.proofs.EventLaws.{due-is, due-small, due-cases}
+use Rattle.steps.proofs.EventLaws.{due-is, due-small, due-event}
 use Rattle.bounds.proofs.Counts.{step-bounded, confined-bounded}
 use Rattle.bounds.proofs.Held.{holds-traced, holds-counted}
 use Rattle.runs.specs.Code.{turned}
@@ -41,9 +40,6 @@ turned-stop n v s h e =
     let g : v / 2 ^ 32 ≡ 2 = omega arith in
     let k : v % 2 ^ 32 ≡ n = omega arith in
     rw (ne-eqb v 0 f, g, k) refl
-
-pub below-three : (n : ℕ) → n < 4 → (n ≡ 3 → ⊥) → n < 3
-below-three n h f = omega arith
 
 -- ---- number 4
 
@@ -94,13 +90,13 @@ module _ (level : ℕ) (b : Bank) (q : Cache) (m : Memory) (i : Bank) (ei : Made
   confined-by =
       ap (λ (c : Cpu). confinedFor (dueOf level (c .bank)) (board (cpu b q) m) c) (sym (ei q)) ∙ ap (λ (d : Due). confinedFor d (board (cpu b q) m) (cpu i q)) (sym (due-is level i n en))
 
-  ends-by : (n ≡ 0 → ⊥) → confinedFor (dueFrom n) (board (cpu b q) m) (cpu i q) ≡ ends eventDue (dueCode (dueFrom n)) (board (cpu i q) m)
-  ends-by h = due-cases n (λ d. confinedFor d (board (cpu b q) m) (cpu i q) ≡ ends eventDue (dueCode d) (board (cpu i q) m)) h refl refl refl refl
+  ends-by : (n ≡ 0 → ⊥) → confinedFor (dueFrom n) (board (cpu b q) m) (cpu i q) ≡ ends eventDue (eventCode (eventFrom n)) (board (cpu i q) m)
+  ends-by h = ap (λ (d : Due). confinedFor d (board (cpu b q) m) (cpu i q)) (due-event n h)
 
   pub confined-event : (n ≡ 0 → ⊥) → (v : ℕ) → v ≡ 2 * 2 ^ 32 + n → turned v (board (cpu i q) m) ≡ confinedTurn level (board (cpu b q) m)
   confined-event h v ev =
       turned-stop n v (board (cpu i q) m) small ev
-      ∙ ap (λ (k : ℕ). ends eventDue k (board (cpu i q) m)) (en ∙ ap dueCode (sym (due-is level i n en)))
+      ∙ ap (λ (k : ℕ). ends eventDue k (board (cpu i q) m)) (en ∙ ap dueCode (sym (due-is level i n en) ∙ due-event n h))
       ∙ sym (confined-by ∙ ends-by h)
     where
       small : n < 2 ^ 32
@@ -108,12 +104,12 @@ module _ (level : ℕ) (b : Bank) (q : Cache) (m : Memory) (i : Bank) (ei : Made
 
   -- nothing is due: a and p are bank and cache after the attempt, r its answer
   module _ (en0 : n ≡ 0) (x : Journal) (long : Long m x) (bytes : Bytes m) (r : ℕ) (a : Bank) (p : Cache) (k : Memory) (y : Journal) (x₀ : Journal) (ex : x₀ ≡ set x 0 0)
-      (e : gave (triedOut (answerOf r) a p) (journaled k y) ≡ interpret logging (attemptOf true (cpu i q)) (journaled m x₀)) where
+      (e : gave (attemptedOut (answerOf r) a p) (journaled k y) ≡ interpret logging (attemptOf true (cpu i q)) (journaled m x₀)) where
     abbrev s : Board
     s = board (cpu b q) m
 
     tried-as : gave (triedOut (answerOf r) a p) (journaled k y) ≡ interpret logging (confinedAttempt (cpu i q)) (journaled m x₀)
-    tried-as = e ∙ confined-attempted (cpu i q) (journaled m x₀)
+    tried-as = confined-attempted (cpu i q) r a p (journaled m x₀) (journaled k y) e
 
     turn-is : confinedTurn level s ≡ afterTry s (cpu i q) (triedOut (answerOf r) a p) k
     turn-is =
@@ -135,10 +131,10 @@ module _ (level : ℕ) (b : Bank) (q : Cache) (m : Memory) (i : Bank) (ei : Made
       confined-fault h o g eo eg f =
           judged s (cpu a p) (cpu a p) (undo y k) t (λ c. turned g (board c k)) refl undone-is f
           ∙ ap (λ (j : Turn). unlessLost (holdsStack (cpu a p)) s j) (turned-stop o g (board (cpu a p) k) (omega arith) eg ∙ ap (λ (j : ℕ). ends eventDue j (board (cpu a p) k)) eo)
-          ∙ sym (turn-is ∙ ap (λ (j : Out Tried). afterTry s (cpu i q) j k) (answers-stop r a p h))
+          ∙ sym (turn-is ∙ ap (λ (j : Answer). afterTry s (cpu i q) (triedOut j a p) k) (answer-high r h))
 
       -- only fetched: d is the bank looked at again
-      pub confined-fetched : r < 2 ^ 32 → 4 ≤ r → (d : Bank) → Made b d (λ c. looked level c) → (g : ℕ) → g ≡ 2 * 2 ^ 32 + r
+      pub confined-fetched : r < 2 ^ 32 → 3 ≤ r → (d : Bank) → Made b d (λ c. looked level c) → (g : ℕ) → g ≡ 2 * 2 ^ 32 + r
           → t ≡ unlessLost (holdsStack (cpu d q)) (board (cpu b q) (undo y k)) (turned g (board (cpu d q) k)) → t ≡ confinedTurn level s
       confined-fetched h l d ed g eg f =
           judged s (cpu d q) (cpu i q) (undo y k) t (λ c. turned g (board c k)) (ed q ∙ sym (ei q)) undone-is f
@@ -146,17 +142,7 @@ module _ (level : ℕ) (b : Bank) (q : Cache) (m : Memory) (i : Bank) (ei : Made
           ∙ sym (turn-is ∙ ap (λ (j : Out Tried). afterTry s (cpu i q) j k) only)
         where
           only : triedOut (answerOf r) a p ≡ ok (fetched r)
-          only = simp (answer-got r h, le-ltb r 4 l)
-
-      pub confined-sequence : r ≡ 3 → (g : ℕ) → g ≡ 2 * 2 ^ 32 + 0x21
-          → t ≡ unlessLost (holdsStack (cpu a p)) (board (cpu b q) (undo y k)) (turned g (board (cpu a p) k)) → t ≡ confinedTurn level s
-      confined-sequence h g eg f =
-          judged s (cpu a p) (cpu a p) (undo y k) t (λ c. turned g (board c k)) refl undone-is f
-          ∙ ap (λ (j : Turn). unlessLost (holdsStack (cpu a p)) s j) (turned-stop 0x21 g (board (cpu a p) k) (omega arith) eg)
-          ∙ sym (turn-is ∙ ap (λ (j : Out Tried). afterTry s (cpu i q) j k) only)
-        where
-          only : triedOut (answerOf r) a p ≡ ok (tried (sequenced (cpu a p)))
-          only = rw (h, answer-got 3 (omega arith)) refl
+          only = simp (answer-got r h, le-ltb r 3 l)
 
       -- finished: d is the bank with its trace, o with the timers too
       pub confined-done : r < 3 → (j : ℕ) → j ≡ r % 2 ^ 32 → (z : Bool) → z ≡ tracesAt (word i psw) (tracedFrom j) → (d : Bank) → Made a d (λ c. traceFalls z c)
@@ -165,8 +151,11 @@ module _ (level : ℕ) (b : Bank) (q : Cache) (m : Memory) (i : Bank) (ei : Made
       confined-done h j ej z ez d ed o eo f =
           judged s (cpu o p) after (undo y k) t (λ c. goes (board c k)) timed-as undone-is f
           ∙ ap (λ (l : Bool). unlessLost l s (goes (board after k))) (holds-counted (word b config) (not (isUser b)) true (traceFalls traces (cpu a p)) ∙ holds-traced traces (cpu a p))
-          ∙ sym (turn-is ∙ ap (λ (l : Out Tried). afterTry s (cpu i q) l k) (answers-class r (tracedFrom r) a p refl h))
+          ∙ sym (turn-is ∙ ap (λ (l : Out Tried). afterTry s (cpu i q) l k) finished)
         where
+          finished : triedOut (answerOf r) a p ≡ ok (tried (tracedFrom r) (cpu a p))
+          finished = let l : r < 2 ^ 32 = omega arith in simp (answer-got r l, lt-ltb r 3 h)
+
           traces : Bool
           traces = tracesAt (word i psw) (tracedFrom r)
 

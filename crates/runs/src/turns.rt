@@ -95,29 +95,26 @@ fn confined_turn(
     }
     let p = r[6];
     let x = attempt(m, journal, q, r, true);
-    if 0x1_0000_0000 <= x {
-        return judge(
-            m,
-            journal,
-            q,
-            r,
-            &bank,
-            &cache,
-            0x2_0000_0000 + low32(x) as u64,
-        );
+    if x < 3 {
+        trace_falls(r, traces_at(p, low32(x)));
+        count_turn(r, &bank, true);
+        return judge(m, journal, q, r, &bank, &cache, 0);
     }
-    if 4 <= x {
+    if x < 0x1_0000_0000 {
         *r = bank;
         *q = cache;
         looked(r, level);
         return judge(m, journal, q, r, &bank, &cache, 0x2_0000_0000 + x);
     }
-    if x == 3 {
-        return judge(m, journal, q, r, &bank, &cache, 0x2_0000_0021);
-    }
-    trace_falls(r, traces_at(p, low32(x)));
-    count_turn(r, &bank, true);
-    judge(m, journal, q, r, &bank, &cache, 0)
+    judge(
+        m,
+        journal,
+        q,
+        r,
+        &bank,
+        &cache,
+        0x2_0000_0000 + low32(x) as u64,
+    )
 }
 
 // A turn of either kind: the quick way where that goes, else with all that may have to be put back.

@@ -10,12 +10,16 @@ use Rattle.machine.specs.Status.{Cpu, with}
 use Rattle.access.specs.Parts.{Out}
 use Rattle.exec.specs.Frames.{interruptSequence, exceptionSequence}
 
+-- an event between two steps: an interrupt by its level, a timer's overflow, a trace
+pub data Event : Type 0 where
+  interrupt : ℕ → Event
+  timer1 : Event
+  timer2 : Event
+  trace : Event
+
 pub data Due : Type 0 where
   none : Due
-  interrupt : ℕ → Due
-  timer1 : Due
-  timer2 : Due
-  trace : Due
+  due : Event → Due
 
 -- "Interrupts are accepted when the requesting device level is less than interrupt priority level or equal to 0"
 abbrev pub priority : Bank → ℕ
@@ -28,12 +32,12 @@ isDue b k = eqb (word b k) 1
 -- once taken, waits for a look that finds another level
 abbrev pub dueOf : ℕ → Bank → Due
 dueOf level b =
-    cond (eqb level 0 && not (isDue b nmiTaken)) (interrupt 0)
-    (cond (eqb level 1 && ltb 1 (priority b)) (interrupt 1)
-    (cond (isDue b timer1Due && ltb 1 (priority b)) timer1
-    (cond (isDue b timer2Due && ltb 1 (priority b)) timer2
-    (cond (leb 2 level && leb level 6 && ltb level (priority b)) (interrupt level)
-    (cond (isDue b traceDue) trace none)))))
+    cond (eqb level 0 && not (isDue b nmiTaken)) (due (interrupt 0))
+    (cond (eqb level 1 && ltb 1 (priority b)) (due (interrupt 1))
+    (cond (isDue b timer1Due && ltb 1 (priority b)) (due timer1)
+    (cond (isDue b timer2Due && ltb 1 (priority b)) (due timer2)
+    (cond (leb 2 level && leb level 6 && ltb level (priority b)) (due (interrupt level))
+    (cond (isDue b traceDue) (due trace) none)))))
 
 -- a look that finds another level ends the wait of input 0
 abbrev pub looked : ℕ → Cpu → Cpu
@@ -43,16 +47,14 @@ abbrev pub traceException : ℕ
 traceException = 0x2
 
 -- document 01: "10 to 16 interrupt level 0 to 6, 17 and 18 timers", and the trace by its exception
-abbrev pub dueCode : Due → ℕ
-dueCode none = 0
-dueCode (interrupt n) = 0x10 + n
-dueCode timer1 = 0x17
-dueCode timer2 = 0x18
-dueCode trace = traceException
+abbrev pub eventCode : Event → ℕ
+eventCode (interrupt n) = 0x10 + n
+eventCode timer1 = 0x17
+eventCode timer2 = 0x18
+eventCode trace = traceException
 
 -- Table 1-14; what is taken is no longer due
-unfoldable pub take : Cpu → Due → Program (Out Cpu)
-take c none = interruptSequence c 0
+unfoldable pub take : Cpu → Event → Program (Out Cpu)
 take c (interrupt n) = interruptSequence (cond (eqb n 0) (with c nmiTaken 1) c) (16 + 4 * n)
 take c timer1 = interruptSequence (with c timer1Due 0) 44
 take c timer2 = interruptSequence (with c timer2Due 0) 48

@@ -15,7 +15,7 @@ use Rattle.access.specs.Parts.{Out, ok, stop, done, resets, _>>=_}
 use Rattle.access.specs.Text.{fetchText}
 use Rattle.exec.specs.Frames.{exceptionSequence, unimplementedSequence, reset}
 use Rattle.exec.specs.Execute.{normal, execute, Traced, always, atJumps, never, traced}
-use Rattle.step.specs.Events.{Due, none, interrupt, timer1, timer2, trace, dueOf, looked, take}
+use Rattle.step.specs.Events.{Event, Due, none, due, dueOf, looked, take}
 use Rattle.step.specs.Timers.{counted}
 
 -- ---- what the text at PC is
@@ -83,8 +83,8 @@ abbrev pub settled : Out Cpu → Cpu
 settled (ok c) = c
 settled (stop e c) = reset c
 
-unfoldable pub eventStep : Cpu → Due → Program Stepped
-eventStep c d = after (take c d) (λ o. ret (stepped (settled o) false))
+unfoldable pub eventStep : Cpu → Event → Program Stepped
+eventStep c e = after (take c e) (λ o. ret (stepped (settled o) false))
 
 unfoldable pub exceptionStep : Cpu → ℕ → Program Stepped
 exceptionStep c e =
@@ -100,10 +100,7 @@ instructionStep c = after (attempt c) (finish (reg c psw))
 
 abbrev pub stepFor : Due → Cpu → Program Stepped
 stepFor none c = instructionStep c
-stepFor (interrupt n) c = eventStep c (interrupt n)
-stepFor timer1 c = eventStep c timer1
-stepFor timer2 c = eventStep c timer2
-stepFor trace c = eventStep c trace
+stepFor (due e) c = eventStep c e
 
 unfoldable pub step : ℕ → Cpu → Program Stepped
 step level c = stepFor (dueOf level (looked level c .bank)) (looked level c)

@@ -18,9 +18,9 @@ use Rattle.machine.specs.Status.{Cpu, cpu}
 use Rattle.access.specs.Parts.{Out}
 use Rattle.access.specs.Code.{ended}
 use Rattle.exec.specs.Frames.{interruptSequence, exceptionSequence, reset}
-use Rattle.step.specs.Events.{Due, none, interrupt, timer1, timer2, trace, isDue, priority, dueOf, dueCode, take}
+use Rattle.step.specs.Events.{Event, interrupt, timer1, timer2, trace, Due, none, due, isDue, priority, dueOf, take}
 use Rattle.step.specs.Step.{stepped, settled, eventStep, exceptionStep, instructionStep, stepFor}
-use Rattle.pending.specs.Dues.{dueFrom, takenOf, vectorOf, isTrace}
+use Rattle.pending.specs.Dues.{dueCode, eventFrom, dueFrom, takenOf, vectorOf, isTrace}
 use Rattle.pending.proofs.EventLaws.{asked}
 use Rattle.pending.proofs.Laws.{due-known}
 use Rattle.control.proofs.FlowLaws.{Made}
@@ -59,36 +59,34 @@ module _ (b : Bank) (q : Cache) (e : ℕ) (t : Journaled) where
 -- ---- what is due
 
 -- s is the bank without what is taken
-module _ (b : Bank) (q : Cache) (k : ℕ) (s : Bank) (es : Made b s (λ c. takenOf (dueFrom k) c)) (t : Journaled) (x : ℕ) (a d : Bank) (u : Journaled) (ed : Settled a x d) where
+module _ (b : Bank) (q : Cache) (k : ℕ) (s : Bank) (es : Made b s (λ c. takenOf (eventFrom k) c)) (t : Journaled) (x : ℕ) (a d : Bank) (u : Journaled) (ed : Settled a x d) where
   pub trace-taken : k ≡ 2 → gave (ended (answerOf x) a q) u ≡ interpret logging (exceptionSequence (cpu s q) 2) t
-      → gave (stepped (cpu d q) false) u ≡ interpret logging (eventStep (cpu b q) (dueFrom k)) t
+      → gave (stepped (cpu d q) false) u ≡ interpret logging (eventStep (cpu b q) (eventFrom k)) t
   unfolding eventStep take
   trace-taken h e =
-      rw h (sequence-settled (exceptionSequence (takenOf trace (cpu b q)) 2) x a d q t u (e ∙ ap (λ (c : Cpu). interpret logging (exceptionSequence c 2) t) (es q ∙ ap (λ (n : ℕ). takenOf (dueFrom n) (cpu b q)) h)) ed)
+      rw h (sequence-settled (exceptionSequence (takenOf trace (cpu b q)) 2) x a d q t u (e ∙ ap (λ (c : Cpu). interpret logging (exceptionSequence c 2) t) (es q ∙ ap (λ (n : ℕ). takenOf (eventFrom n) (cpu b q)) h)) ed)
 
-  not-trace : (k ≡ 2 → ⊥) → isTrace (dueFrom k) ≡ false
-  not-trace h = rw (ne-eqb k 2 h) (go (eqb k 0) (eqb k 0x17) (eqb k 0x18))
+  not-trace : (k ≡ 2 → ⊥) → isTrace (eventFrom k) ≡ false
+  not-trace h = rw (ne-eqb k 2 h) (go (eqb k 0x17) (eqb k 0x18))
     where
-      go : (f g i : Bool) → isTrace (cond f none (cond false trace (cond g timer1 (cond i timer2 (interrupt (k - 0x10)))))) ≡ false
-      go true g i = refl
-      go false true i = refl
-      go false false true = refl
-      go false false false = refl
+      go : (g i : Bool) → isTrace (cond g timer1 (cond i timer2 (interrupt (k - 0x10)))) ≡ false
+      go true i = refl
+      go false true = refl
+      go false false = refl
 
-  taken-as : (n : Due) (c : Cpu) → isTrace n ≡ false → take c n ≡ interruptSequence (takenOf n c) (vectorOf n)
+  taken-as : (n : Event) (c : Cpu) → isTrace n ≡ false → take c n ≡ interruptSequence (takenOf n c) (vectorOf n)
   unfolding take
-  taken-as none c h = refl
   taken-as (interrupt n) c h = refl
   taken-as timer1 c h = refl
   taken-as timer2 c h = refl
   taken-as trace c h = cc
 
-  pub interrupt-taken : (k ≡ 2 → ⊥) → (v : ℕ) → v ≡ vectorOf (dueFrom k) → gave (ended (answerOf x) a q) u ≡ interpret logging (interruptSequence (cpu s q) v) t
-      → gave (stepped (cpu d q) false) u ≡ interpret logging (eventStep (cpu b q) (dueFrom k)) t
+  pub interrupt-taken : (k ≡ 2 → ⊥) → (v : ℕ) → v ≡ vectorOf (eventFrom k) → gave (ended (answerOf x) a q) u ≡ interpret logging (interruptSequence (cpu s q) v) t
+      → gave (stepped (cpu d q) false) u ≡ interpret logging (eventStep (cpu b q) (eventFrom k)) t
   unfolding eventStep
   interrupt-taken h v ev e =
-      sequence-settled (take (cpu b q) (dueFrom k)) x a d q t u
-      (e ∙ ap (λ (c : Cpu). interpret logging (interruptSequence c v) t) (es q) ∙ ap (λ (n : ℕ). interpret logging (interruptSequence (takenOf (dueFrom k) (cpu b q)) n) t) ev ∙ ap (λ (p : Program (Out Cpu)). interpret logging p t) (sym (taken-as (dueFrom k) (cpu b q) (not-trace h))))
+      sequence-settled (take (cpu b q) (eventFrom k)) x a d q t u
+      (e ∙ ap (λ (c : Cpu). interpret logging (interruptSequence c v) t) (es q) ∙ ap (λ (n : ℕ). interpret logging (interruptSequence (takenOf (eventFrom k) (cpu b q)) n) t) ev ∙ ap (λ (p : Program (Out Cpu)). interpret logging p t) (sym (taken-as (eventFrom k) (cpu b q) (not-trace h))))
       ed
 
 -- ---- the number of what is due says what it is
@@ -97,7 +95,7 @@ due-below : (level : ℕ) (b : Bank) → dueCode (dueOf level b) < 32
 due-below level b =
     go (eqb level 0 && not (isDue b nmiTaken)) (eqb level 1 && ltb 1 (priority b)) (isDue b timer1Due && ltb 1 (priority b)) (isDue b timer2Due && ltb 1 (priority b)) (leb 2 level && leb level 6 && ltb level (priority b)) (isDue b traceDue) (asked level (priority b))
   where
-    go : (f g h i j k : Bool) → (j ≡ true → level ≤ 6) → dueCode (cond f (interrupt 0) (cond g (interrupt 1) (cond h timer1 (cond i timer2 (cond j (interrupt level) (cond k trace none)))))) < 32
+    go : (f g h i j k : Bool) → (j ≡ true → level ≤ 6) → dueCode (cond f (due (interrupt 0)) (cond g (due (interrupt 1)) (cond h (due timer1) (cond i (due timer2) (cond j (due (interrupt level)) (cond k (due trace) none)))))) < 32
     go true g h i j k l = omega arith
     go false true h i j k l = omega arith
     go false false true i j k l = omega arith
@@ -113,19 +111,12 @@ module _ (level : ℕ) (b : Bank) (k : ℕ) (e : k ≡ dueCode (dueOf level b)) 
   pub due-small : k < 32
   due-small = rw e (due-below level b)
 
--- what holds of each event holds of a number that is not 0
-pub due-cases : (k : ℕ) (P : Due → Type 0) → (k ≡ 0 → ⊥) → P trace → P timer1 → P timer2 → P (interrupt (k - 0x10)) → P (dueFrom k)
-due-cases k P h a b c d = rw (ne-eqb k 0 h) (go (eqb k 2) (eqb k 0x17) (eqb k 0x18))
-  where
-    go : (f g i : Bool) → P (cond f trace (cond g timer1 (cond i timer2 (interrupt (k - 0x10)))))
-    go true g i = a
-    go false true i = b
-    go false false true = c
-    go false false false = d
+pub due-event : (k : ℕ) → (k ≡ 0 → ⊥) → dueFrom k ≡ due (eventFrom k)
+due-event k h = rw (ne-eqb k 0 h) refl
 
 module _ (c : Cpu) (k : ℕ) where
   pub nothing-due : k ≡ 0 → stepFor (dueFrom k) c ≡ instructionStep c
   nothing-due h = rw h
 
-  pub something-due : (k ≡ 0 → ⊥) → stepFor (dueFrom k) c ≡ eventStep c (dueFrom k)
-  something-due h = due-cases k (λ d. stepFor d c ≡ eventStep c d) h refl refl refl refl
+  pub something-due : (k ≡ 0 → ⊥) → stepFor (dueFrom k) c ≡ eventStep c (eventFrom k)
+  something-due h = ap (λ (d : Due). stepFor d c) (due-event k h)

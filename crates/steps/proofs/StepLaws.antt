@@ -17,11 +17,11 @@ use Rattle.machine.specs.Cache.{Cache}
 use Rattle.machine.specs.Status.{Cpu, cpu}
 use Rattle.access.specs.Parts.{Out}
 use Rattle.pending.specs.Traces.{tracedFrom}
-use Rattle.step.specs.Events.{Due, dueOf, dueCode, looked}
+use Rattle.step.specs.Events.{Due, dueOf, looked}
 use Rattle.step.specs.Step.{Acted, attempt, tracesAt, traceFalls, Stepped, stepped, exceptionStep, eventStep, finish, instructionStep, stepFor, step}
-use Rattle.pending.specs.Dues.{dueFrom}
+use Rattle.pending.specs.Dues.{dueCode, eventFrom, dueFrom}
 use Rattle.control.proofs.FlowLaws.{Made}
-use Rattle.attempts.specs.Code.{attemptOf, actedOut, triedOut}
+use Rattle.attempts.specs.Code.{attemptOf, attemptedOut, actedOut}
 use Rattle.attempts.proofs.AttemptLaws.{events-attempted}
 use Rattle.steps.proofs.EventLaws.{due-is, due-small, nothing-due, something-due}
 
@@ -48,7 +48,7 @@ module _ (b : Bank) (q : Cache) (p x : ℕ) (t : Journaled) where
 
 -- ---- the instruction at PC: s and a are bank and cache after the attempt
 
-pub instruction-stepped : (b : Bank) (q : Cache) (x : ℕ) (s : Bank) (a : Cache) (t u : Journaled) → gave (triedOut (answerOf x) s a) u ≡ interpret logging (attemptOf false (cpu b q)) t
+pub instruction-stepped : (b : Bank) (q : Cache) (x : ℕ) (s : Bank) (a : Cache) (t u : Journaled) → gave (attemptedOut (answerOf x) s a) u ≡ interpret logging (attemptOf false (cpu b q)) t
     → (g : Gave Journaled Stepped) → g ≡ interpret logging (finish (word b psw) (actedOut (answerOf x) s a)) u → g ≡ interpret logging (instructionStep (cpu b q)) t
 unfolding instructionStep
 instruction-stepped b q x s a t u e g f =
@@ -68,9 +68,9 @@ module _ (level : ℕ) (b : Bank) (q : Cache) (s : Bank) (es : Made b s (λ c. l
   pub steps-instruction : k ≡ 0 → g ≡ interpret logging (instructionStep (cpu s q)) t → g ≡ interpret logging (step level (cpu b q)) t
   steps-instruction h e = e ∙ ap (λ (p : Program Stepped). interpret logging p t) (sym (nothing-due (cpu s q) k h)) ∙ sym step-by
 
-  pub steps-event : (k ≡ 0 → ⊥) → g ≡ interpret logging (eventStep (cpu s q) (dueFrom (k % 32))) t → g ≡ interpret logging (step level (cpu b q)) t
+  pub steps-event : (k ≡ 0 → ⊥) → g ≡ interpret logging (eventStep (cpu s q) (eventFrom (k % 32))) t → g ≡ interpret logging (step level (cpu b q)) t
   steps-event h e =
-      e ∙ ap (λ (n : ℕ). interpret logging (eventStep (cpu s q) (dueFrom n)) t) small ∙ ap (λ (p : Program Stepped). interpret logging p t) (sym (something-due (cpu s q) k h)) ∙ sym step-by
+      e ∙ ap (λ (n : ℕ). interpret logging (eventStep (cpu s q) (eventFrom n)) t) small ∙ ap (λ (p : Program Stepped). interpret logging p t) (sym (something-due (cpu s q) k h)) ∙ sym step-by
     where
       small : k % 32 ≡ k
       small = omega (arith, due-small level s k ek)

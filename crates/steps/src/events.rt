@@ -14,7 +14,7 @@ ghost use Rattle.program.specs.Journal.{journaled, logging};
 ghost use Rattle.machine.specs.Cache.{Cache};
 ghost use Rattle.machine.specs.Status.{cpu};
 ghost use Rattle.access.specs.Code.{ended};
-ghost use Rattle.pending.specs.Dues.{dueFrom};
+ghost use Rattle.pending.specs.Dues.{eventFrom};
 ghost use Rattle.step.specs.Step.{stepped, settled, eventStep, exceptionStep};
 
 // A sequence that met a fault on its stack or vector resets.
@@ -38,9 +38,9 @@ pub fn exception_step(m: &mut [u8], journal: &mut [u64; 201], r: &mut [u32; 17],
     settle(r, x);
 }
 
-// What is due, by document 01's number; only its low five bits are used.
+// The event of a number of document 01; only its low five bits are used.
 pub fn event_step(m: &mut [u8], journal: &mut [u64; 201], r: &mut [u32; 17], code: u32)
-    ensures { λ z. ⌜ ((q : Cache) → gave (stepped (cpu (now (r .exit)) q) false) (journaled (now (m .exit)) (now (journal .exit))) ≡ interpret logging (eventStep (cpu (now (r .entry)) q) (dueFrom (code % 32))) (journaled (now (m .entry)) (now (journal .entry)))) ⌝ }
+    ensures { λ z. ⌜ ((q : Cache) → gave (stepped (cpu (now (r .exit)) q) false) (journaled (now (m .exit)) (now (journal .exit))) ≡ interpret logging (eventStep (cpu (now (r .entry)) q) (eventFrom (code % 32))) (journaled (now (m .entry)) (now (journal .entry)))) ⌝ }
 {
     let k = code % 32;
     taken(r, k);

@@ -1,4 +1,4 @@
-use Rattle.pending.proofs.TakenLaws.{takes-none, takes-trace, takes-zero}
+use Rattle.pending.proofs.TakenLaws.{takes-trace, takes-zero}
 use borrow.Author.Needs.{needs}
 use Rattle.pending.proofs.events.low_taken.Statement.{statement}
 use Rattle.pending.proofs.events.low_taken.Tie as tie
@@ -15,8 +15,5 @@ returns c = search (needs, takes-trace)
 returns-2 : tie.Need-returns-2
 returns-2 c = search (needs, takes-zero)
 
-returns-3 : tie.Need-returns-3
-returns-3 c = search (needs, takes-none)
-
 pub low-taken-spec : {M : Type 1} → statement M
-low-taken-spec = tie.close (tie.spec element-write-b element-write-b-2 returns returns-2 returns-3)
+low-taken-spec = tie.close (tie.spec element-write-b element-write-b-2 returns returns-2)

@@ -1,10 +1,7 @@
-use Rattle.pending.proofs.TakenLaws.{vector-high}
+use Rattle.pending.proofs.TakenLaws.{vector-trace, vector-zero, vector-high}
 use borrow.Author.Needs.{needs}
 use Rattle.pending.proofs.events.vector_of.Statement.{statement}
 use Rattle.pending.proofs.events.vector_of.Tie as tie
-
-low-vector-requires : tie.Need-low-vector-requires
-low-vector-requires c κs = search needs
 
 mul-result : tie.Need-mul-result
 mul-result c = search needs
@@ -13,10 +10,13 @@ sub-result : tie.Need-sub-result
 sub-result c = search needs
 
 returns : tie.Need-returns
-returns c = search needs
+returns c = search (needs, vector-trace)
 
 returns-2 : tie.Need-returns-2
-returns-2 c = search (needs, vector-high)
+returns-2 c = search (needs, vector-zero)
+
+returns-3 : tie.Need-returns-3
+returns-3 c = search (needs, vector-high)
 
 pub vector-of-spec : {M : Type 1} → statement M
-vector-of-spec = tie.close (tie.spec low-vector-requires mul-result sub-result returns returns-2)
+vector-of-spec = tie.close (tie.spec mul-result sub-result returns returns-2 returns-3)
