@@ -13,7 +13,8 @@ operands see them (the cache's where it is on), and jumps through the sum: PC of
 
 Groups, in this order: two operands in three and five parcels; the same after a CPU prefix, with every register; one
 parcel; one operand in three parcels; unimplemented and illegal parcels; byte orders and alignment; user level with virtual
-addressing, free and confined; faults of the tables; interrupts, traces and timers.
+addressing, free and confined; faults of the tables; interrupts, traces and timers; the manual's numbers, where a comparison
+after each case shows in F whether the destination holds what the table MANUAL says.
 """
 from frames import (ABSOLUTE, DYADIC, FLOW, IMMEDIATE, INDIRECT, MONADIC, NILADIC, NOP, NUMBER, PREFIX, REGISTER, SHORT, STACK,
                     STACKED, Conversation, five, flow, monadic, niladic, short, stacked, three)
@@ -38,6 +39,45 @@ USERS = [(CACHE, VIRTUAL | USER | ON_SP, 4), (0, VIRTUAL | USER | USER_LITTLE | 
 
 EDGES = [0, 1, 2, 3, 4, 5, 8, 16, 31, 32, 33, 0x7F, 0x80, 0xFF, 0x7FFF, 0x8000, 0xFFFF, 0x7FFFFFFC, 0x7FFFFFFF, 0x80000000,
          0x80000001, 0xFFFFFFF0, 0xFFFFFFFC, 0xFFFFFFFF, 0x12345678, 0xFEDCBA98]
+
+# Row, mode and word of the source, destination before and after: sections 1.2, 1.8 and 3.3, in words.
+MANUAL = [
+    # 1.8.1, 1.8.2: C on the product of the operands as unsigned values, V as signed values
+    ('MUL', ABSOLUTE, 0xFFFFFFFF, 0xFFFFFFFF, 1),
+    ('MUL', ABSOLUTE, 0xFFFFFFFF, 0x80000000, 0x80000000),
+    ('MUL', ABSOLUTE, 2, 0x40000000, 0x80000000),
+    # 3.3, DIV: "Division of 0x80000000 by 0xFFFFFFFF sets the .. overflow bit and returns the result 0x80000000."
+    ('DIV', ABSOLUTE, 0xFFFFFFFF, 0x80000000, 0x80000000),
+    ('REM', ABSOLUTE, 0xFFFFFFFF, 0x80000000, 0),
+    # 1.8.3: -7 by 2 and 7 by -2, truncated toward zero, the remainder with the dividend's sign; then unsigned
+    ('DIV', ABSOLUTE, 2, 0xFFFFFFF9, 0xFFFFFFFD),
+    ('REM', ABSOLUTE, 2, 0xFFFFFFF9, 0xFFFFFFFF),
+    ('DIV', ABSOLUTE, 0xFFFFFFFE, 7, 0xFFFFFFFD),
+    ('REM', ABSOLUTE, 0xFFFFFFFE, 7, 1),
+    ('UDIV', ABSOLUTE, 2, 0xFFFFFFF9, 0x7FFFFFFC),
+    ('UREM', ABSOLUTE, 2, 0xFFFFFFF9, 1),
+    # 3.3, SHR: "The sign bit of the destination is copied .. Only the low-order 5 bits of src are used"
+    ('SHR', ABSOLUTE, 33, 0x80000000, 0xC0000000),
+    ('SHR', ABSOLUTE, 31, 0x80000000, 0xFFFFFFFF),
+    ('SHR', ABSOLUTE, 4, 0x7FFFFFFF, 0x07FFFFFF),
+    ('SHL', ABSOLUTE, 33, 0x80000001, 2),
+    # 1.2: "expanded to 32-bit through sign extension (if signed) or clearing high-order bits (if unsigned)"
+    ('MOV', 0x0, 0xFF010101, 0, 0xFFFFFFFF),
+    ('MOV', 0x1, 0xFF010101, 0, 0xFF),
+    ('MOV', 0x2, 0x7FFF0101, 0, 0x7FFF),
+    ('MOV', 0x2, 0x80000101, 0, 0xFFFF8000),
+    ('MOV', 0x3, 0xFFFF0101, 0, 0xFFFF),
+    # 1.8.4: "If both tags are zero, the result is stored only if the operation doesn't result in an arithmetic overflow."
+    ('TSUB', ABSOLUTE, 8, 4, 0xFFFFFFFC),
+    ('TSUB', ABSOLUTE, 4, 0x80000000, 0x80000000),
+    ('TSUB', ABSOLUTE, 1, 4, 4),
+    # 3.3, CMP: GT is signed, HI unsigned
+    ('CMPGT', ABSOLUTE, 1, 0xFFFFFFFF, 0xFFFFFFFF),
+    ('CMPHI', ABSOLUTE, 1, 0xFFFFFFFF, 0xFFFFFFFF),
+    ('CMPGT', ABSOLUTE, 0xFFFFFFFF, 1, 1),
+    ('CMPHI', ABSOLUTE, 0xFFFFFFFF, 1, 1),
+    ('CMPEQ', ABSOLUTE, 1, 0xFFFFFFFF, 0xFFFFFFFF),
+]
 
 
 class Steps(Conversation):
@@ -329,6 +369,19 @@ class Steps(Conversation):
                     self.case([NOP, NOP, NOP], (config | bits, psw | mask << 12, kind), timers=(0xFFFFFFFF, 0xFFFFFFFE), more=3)
                     self.case([0x2000], (config | bits, psw | mask << 12, kind), timers=(0xFFFFFFFF, 0xFFFFFFFF), more=1)
 
+    def manual(self):
+        """Each with F, C and V clear and set before; the second line of a case has F 1 if the destination is as it should be."""
+        self.keep('CONFIG', 0)
+        for row, mode, source, before, after in MANUAL:
+            for flags in (0, FLAG | CARRY | OVERFLOW):
+                self.words(DATA, [before, source])
+                self.text(TEXT, five(DYADIC[row], mode, DATA + 4, ABSOLUTE, DATA))
+                self.text(TEXT + 10, five(DYADIC['CMPEQ'], IMMEDIATE, after, ABSOLUTE, DATA))
+                self.register('PSW', ON_SP | flags)
+                self.register('PC', TEXT)
+                self.run(1)
+                self.run(1)
+
 
 def main():
     s = Steps()
@@ -346,6 +399,7 @@ def main():
     s.unlisted(USERS[:2])
     s.faults()
     s.events()
+    s.manual()
     print(s, end='')
 
 
