@@ -1,4 +1,4 @@
--- The P cases of document 01 ("Checked by hand"), each played as one step: one table of tests, with one proof by computation.
+-- The P cases of document 01 ("Checked by hand"), each played as one step: one table, with one proof by computation.
 -- Assumes nothing.
 use Prim.Native.Nat.{ℕ, _+_, _*_, _/_, _%_, _^_}
 use mathlib.Core.Bool.{Bool, true, _&&_}

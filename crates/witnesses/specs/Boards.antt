@@ -3,7 +3,7 @@
 use Prim.Native.Nat.{ℕ, suc, _/_, _%_}
 use mathlib.Core.Bool.{Bool, true, false, not, _&&_}
 use mathlib.Core.List.{List, [], _∷_}
-use lib.ListN.{replicate, set}
+use lib.ListN.{replicate, getD, set}
 use lib.Dec.{eqb}
 use Rattle.memory.specs.Bytes.{Memory, number}
 use Rattle.machine.specs.Registers.{Bank}
@@ -73,3 +73,7 @@ register e k = reg (e .left .cpu) k
 
 abbrev pub memoryWord : Ended → ℕ → ℕ
 memoryWord e a = number 4 (e .left .memory) a
+
+-- the word j of the quad-word i
+abbrev pub cacheWord : Ended → ℕ → ℕ → ℕ
+cacheWord e i j = getD (getD (e .left .cpu .cache) i []) j 0

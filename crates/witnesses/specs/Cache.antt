@@ -10,9 +10,9 @@ use Rattle.mmu.specs.Walk.{segmentOf, segment, nonpagedOf, pageOf, walkFrom, wa
 use Rattle.program.specs.Access.{touch, follow, access}
 use Rattle.program.specs.Program.{interpret, after}
 use Rattle.machine.specs.Registers.{goodBank, config, fault, msp, psw, sp}
-use Rattle.machine.specs.Cache.{cacheRead}
+use Rattle.machine.specs.Cache.{cacheRead, cacheWrite}
 use Rattle.machine.specs.Status.{Cpu, with}
-use Rattle.access.specs.Data.{readCached, readMemory, readData, writeMemory, writeData, checkStore}
+use Rattle.access.specs.Data.{readCached, readMemory, readData, writeCached, writeMemory, writeData, checkStore}
 use Rattle.access.specs.Moves.{flushWord, flushQuad, flush, fillWord, fillQuad, fill}
 use Rattle.access.specs.Parts.{onward, _>>=_, request, parcelRequest}
 use Rattle.access.specs.Text.{fetchParcel, fetchParcels, fetchAfter, fetchText}
@@ -24,7 +24,7 @@ use Rattle.exec.specs.Execute.{executeMonadic, executeNormal, execute}
 use Rattle.step.specs.Timers.{counted}
 use Rattle.step.specs.Step.{fetchInstruction, act, attempt, finish, instructionStep, step}
 use Rattle.run.specs.Run.{Ended, turn, tryActed, confinedAttempt, confinedTurn, advance, refusal, run}
-use Rattle.witnesses.specs.Boards.{is, all, page, pages, word, text, kernel, user, segmented, runs, confined, register, memoryWord}
+use Rattle.witnesses.specs.Boards.{is, all, page, pages, word, text, kernel, user, segmented, runs, confined, register, memoryWord, cacheWord}
 
 -- the stack cache on, SP current, with an SP and an MSP
 abbrev pub cached : Cpu → ℕ → ℕ → ℕ → Cpu
@@ -35,7 +35,12 @@ cached c p s m = with (with (with (with c config 0x4_0000) psw p) sp s) msp m
 -- "MOV *a, *0x200", where memory holds 9 at 0x67C and at 0x680, and the cache 0
 abbrev pub movedFrom : ℕ → Ended
 movedFrom a =
-    runs 1 (cached kernel 0x200 0x600 0x680) (word 0x67C 9 (word 0x680 9 (text 0x100 (0xC6CC ∷ 0 ∷ a ∷ 0 ∷ 0x200 ∷ []) page)))
+    runs 1 (cached kernel 0x200 0x600 0x680)
+    (word 0x67C 9 (word 0x680 9 (text 0x100 (0xC6CC ∷ 0 ∷ a ∷ 0 ∷ 0x200 ∷ []) page)))
+
+-- "MOV 5, 20(SP)" at SP 0x6F0: the word at 0x704, in the quad-word 0
+abbrev pub movedTo : Ended
+movedTo = runs 1 (cached kernel 0x200 0x6F0 0x7F0) (text 0x100 (0x70A5 ∷ []) page)
 
 -- "POPN 16"
 abbrev pub popped : Ended
@@ -65,6 +70,11 @@ moves =
     -- the address MSP itself in the cache, and the word below it in memory
     is (memoryWord (movedFrom 0x680) 0x200) 9 0
     ∷ is (memoryWord (movedFrom 0x67C) 0x200) 0 9
+    -- the quad-word counted from SP, or the words in another order; nothing goes to memory
+    ∷ is (cacheWord movedTo 0 1) 5 0
+    ∷ is (cacheWord movedTo 1 1) 0 5
+    ∷ is (cacheWord movedTo 0 2) 0 5
+    ∷ is (memoryWord movedTo 0x704) 0 5
     -- MSP following a stack pointer that has not passed it
     ∷ is (register popped sp) 0x610 0x600
     ∷ is (register popped msp) 0x680 0x610
@@ -83,5 +93,5 @@ moves =
     ∷ []
 
 pub moves-checked : T (all moves)
-unfolding moves run refusal goodBank advance turn confinedTurn confinedAttempt tryActed step instructionStep attempt act finish fetchInstruction counted executeMonadic executeNormal execute released move perform dyadic located locate readPlace readOperand writePlace checkRegisters stackTarget checkMsp enterEmpty enterAt enter catchTo catchCurrent catch flushWord flushQuad flush fillWord fillQuad fill checkStore fetchParcel fetchParcels fetchAfter fetchText onward _>>=_ request parcelRequest readCached readMemory readData writeMemory writeData cacheRead interpret after touch follow access segmentOf segment nonpagedOf pageOf walkFrom walk route marked fresh recorded decodeShort decodeDyadic decodeMonadic decodeThree decodeWide decodeBare decodeOf load storeAnswer storeMemory
+unfolding moves run refusal goodBank advance turn confinedTurn confinedAttempt tryActed step instructionStep attempt act finish fetchInstruction counted executeMonadic executeNormal execute released move perform dyadic located locate readPlace readOperand writePlace checkRegisters stackTarget checkMsp enterEmpty enterAt enter catchTo catchCurrent catch flushWord flushQuad flush fillWord fillQuad fill checkStore fetchParcel fetchParcels fetchAfter fetchText onward _>>=_ request parcelRequest readCached readMemory readData writeCached writeMemory writeData cacheRead cacheWrite interpret after touch follow access segmentOf segment nonpagedOf pageOf walkFrom walk route marked fresh recorded decodeShort decodeDyadic decodeMonadic decodeThree decodeWide decodeBare decodeOf load storeAnswer storeMemory
 moves-checked = tt

@@ -2,6 +2,8 @@ pub mod Boards
 pub mod Decoding
 pub mod Machines
 pub mod Steps
+pub mod Events
+pub mod Regimes
 pub mod Cache
 pub mod Runs
 pub mod Lines

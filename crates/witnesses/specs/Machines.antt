@@ -72,7 +72,7 @@ unfoldable pub memories : List Bool
 memories =
     -- bytes in another order: the most significant byte first
     is (answerNumber (load 4 (1 ∷ 2 ∷ 3 ∷ 4 ∷ []) 0)) 0x0102_0304 0x0102_0403
-    -- "swapping a word's bytes in little-endian mode": a word stays where it is; a half-word's bit 1, a byte's bits 1 and 0 flip
+    -- a word renumbered in little-endian order: it stays where it is; a half-word's bit 1, a byte's bits 1 and 0 flip
     ∷ is (placeOf true Word 0x10) 0x10 0x13
     ∷ is (placeOf true Half 0x10) 0x12 0x13
     ∷ is (placeOf true Byte 0x10) 0x13 0x10

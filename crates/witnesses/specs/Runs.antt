@@ -1,9 +1,9 @@
 -- Wrong answers of a run, each on a small board on which the definition answers otherwise.
 -- Assumes nothing.
-use Prim.Native.Nat.{ℕ}
+use Prim.Native.Nat.{ℕ, zero, suc}
 use mathlib.Core.Bool.{Bool, true, false}
 use mathlib.Core.List.{List, [], _∷_}
-use lib.ListN.{replicate}
+use lib.ListN.{replicate, length}
 use lib.Dec.{T}
 use Rattle.word.specs.Sums.{addOf}
 use Rattle.memory.specs.Bytes.{Memory, load, storeAnswer, storeMemory}
@@ -12,18 +12,21 @@ use Rattle.mmu.specs.Walk.{segmentOf, segment, nonpagedOf, pageOf, walkFrom, wa
 use Rattle.program.specs.Access.{touch, follow, access}
 use Rattle.program.specs.Program.{interpret, after}
 use Rattle.machine.specs.Registers.{goodBank, config, fault, msp, pc, psw, sp, timer2, traceDue, timer2Due, nmiTaken}
-use Rattle.machine.specs.Status.{Cpu, with}
-use Rattle.access.specs.Data.{readMemory, readData, writeMemory, writeData, checkStore}
+use Rattle.machine.specs.Status.{Cpu, reg, with}
+use Rattle.access.specs.Data.{readMemory, readData, writeMemory, writeData, readFrame, writeFrame, checkStore}
 use Rattle.access.specs.Moves.{flush}
-use Rattle.access.specs.Parts.{onward, _>>=_, request, parcelRequest}
+use Rattle.access.specs.Parts.{onward, _>>=_, request, parcelRequest, frameRequest}
 use Rattle.access.specs.Text.{fetchParcel, fetchParcels, fetchAfter, fetchPrefixed, fetchText}
 use Rattle.exec.specs.Operands.{located, locate, readPlace, readOperand, writeRegister, writePlace, writeAccumulator, checkRegisters}
 use Rattle.exec.specs.Dyadic.{interlock, move, perform, dyadic}
+use Rattle.exec.specs.Control.{readWord32}
+use Rattle.exec.specs.Frames.{pushPair, pushFrame, throughVector, kcall}
 use Rattle.exec.specs.Stack.{stackTarget, checkMsp, enterOffset, enterAt, enter}
 use Rattle.exec.specs.Execute.{executeMonadic, executeNormal, execute}
 use Rattle.step.specs.Timers.{counted}
 use Rattle.step.specs.Step.{fetchInstruction, act, attempt, finish, instructionStep, step}
-use Rattle.run.specs.Run.{board, Ended, turn, tryActed, confinedAttempt, confinedTurn, advance, refusal, run}
+use Rattle.run.specs.Run.{Board, board, Ended, turn, tryActed, confinedAttempt, confinedTurn, advance, refusal, run}
+use Rattle.isolation.specs.Course.{course, passed as passedOf}
 use Rattle.witnesses.specs.Boards.{is, all, page, pages, word, text, kernel, user, segmented, runs, confined, register, memoryWord}
 
 -- ---- refusals: memory of a byte less than a page, a reserved bit of PSW, level 8, kernel level
@@ -39,11 +42,19 @@ codeOf confined level c m = run confined 1 level (board c m) .code
 
 unfoldable pub refusals : List Bool
 refusals =
+    -- a run taken in spite of number 1, 2, 3 or 9, each alone, or refused though nothing stands against it
+    is (codeOf false 7 kernel oddPage) 1 0
+    ∷ is (codeOf false 7 (reserved kernel) page) 2 0
+    ∷ is (codeOf false 8 kernel page) 3 0
+    ∷ is (codeOf true 7 kernel page) 9 0
+    ∷ is (codeOf false 7 kernel page) 0 9
+    ∷ is (run true 1 7 (board user (segmented page)) .stop) 2 1
+    -- budget 0 looked at before the refusals
+    ∷ is (run false 0 8 (board kernel page) .code) 3 0
     -- tested in another order than 1, 2, 3, 9
-    is (codeOf true 8 (reserved kernel) oddPage) 1 2
+    ∷ is (codeOf true 8 (reserved kernel) oddPage) 1 2
     ∷ is (codeOf true 8 (reserved kernel) page) 2 3
     ∷ is (codeOf true 8 kernel page) 3 9
-    ∷ is (codeOf true 7 kernel page) 9 0
     -- a confined run at user level without translation, and with it at kernel level
     ∷ is (codeOf true 7 (with user psw 0x600) page) 9 0
     ∷ is (codeOf true 7 (with user psw 0x1_0200) page) 9 0
@@ -54,19 +65,23 @@ refusals =
     ∷ is (codeOf false 7 (with kernel msp 0x5F0) page) 2 0
     ∷ []
 
--- ---- steps: "MOV 5, 16(CSP)" three times
+-- ---- steps: "MOV 5, 16(CSP)", "MOV 6, 20(CSP)" and "MOV 7, 24(CSP)"
 
 abbrev pub moving : Memory
-moving = text 0x100 (0x70A4 ∷ 0x70A4 ∷ 0x70A4 ∷ []) page
+moving = text 0x100 (0x70A4 ∷ 0x70C5 ∷ 0x70E6 ∷ []) page
 
--- "MOV 5, 16(CSP)", then "CPU MOV 0x710, MSP", which loses the stack
+-- "MOV 5, 16(CSP)", then "CPU MOV 0x710, MSP", which loses the stack; and the latter alone
 abbrev pub losing : Ended
 losing = runs 3 kernel (text 0x100 (0x70A4 ∷ 0x2C00 ∷ 0xC6F7 ∷ 0 ∷ 0x710 ∷ 0 ∷ 1 ∷ []) page)
+
+abbrev pub losingFirst : Memory
+losingFirst = text 0x100 (0x2C00 ∷ 0xC6F7 ∷ 0 ∷ 0x710 ∷ 0 ∷ 1 ∷ []) page
 
 -- "ENTER -32(SP)" at SP and MSP 0x10: the new SP is above MSP
 abbrev pub wrapping : Ended
 wrapping =
-    runs 1 (with (with (with (with kernel config 0x4_0000) psw 0x200) sp 0x10) msp 0x10) (text 0x100 (0x80D9 ∷ 0xFFFF ∷ 0xFFE0 ∷ []) page)
+    runs 1 (with (with (with (with kernel config 0x4_0000) psw 0x200) sp 0x10) msp 0x10)
+    (text 0x100 (0x80D9 ∷ 0xFFFF ∷ 0xFFE0 ∷ []) page)
 
 -- "CPU MOV 0x04000000, CONFIG": Timer2 then counts an event that is not in Table 1-2
 abbrev pub configured : Ended
@@ -77,17 +92,22 @@ steps =
     -- a budget that is looked at after an event: level 0 is due
     is (run false 0 0 (board kernel moving) .steps) 0 1
     ∷ is (register (run false 0 0 (board kernel moving)) pc) 0x100 0
-    -- a run making its whole effect in step one, or printing invented steps
+    -- a run making its whole effect in step one
+    ∷ is (register (runs 1 kernel moving) pc) 0x102 0x106
+    ∷ is (memoryWord (runs 1 kernel moving) 0x810) 5 0
+    ∷ is (memoryWord (runs 1 kernel moving) 0x814) 0 6
+    ∷ is (memoryWord (runs 2 kernel moving) 0x814) 6 0
+    ∷ is (memoryWord (runs 2 kernel moving) 0x818) 0 7
+    -- printing invented steps
     ∷ is (runs 1 kernel moving .steps) 1 2
-    ∷ is (register (runs 1 kernel moving) pc) 0x102 0x104
     ∷ is (runs 2 kernel moving .steps) 2 1
-    ∷ is (register (runs 2 kernel moving) pc) 0x104 0x102
     -- a step that loses its stack kept, or counted, or the run going on after it
     ∷ is (losing .stop) 1 0
     ∷ is (losing .code) 4 0
     ∷ is (losing .steps) 1 2
     ∷ is (register losing pc) 0x102 0x10E
     ∷ is (register losing msp) 0x600 0x710
+    ∷ is (register (runs 1 (with kernel nmiTaken 1) losingFirst) nmiTaken) 1 0
     ∷ is (wrapping .code) 4 0
     ∷ is (register wrapping sp) 0x10 0xFFFF_FFF0
     -- timers counted by the CONFIG that the step leaves
@@ -165,8 +185,32 @@ confinedRuns =
     ∷ is (memoryWord modifying 0x1000) 0x1F 0x0F
     ∷ []
 
+-- ---- the boards that a confined run passes: "MOV 5, *0x200", then "MOV *0x5000, *0x200", which faults
+
+abbrev pub passing : ℕ → ℕ → List Board
+passing budget level =
+    course (record { budget = budget; level = level })
+    (board user (trying (0xC6FC ∷ 0 ∷ 5 ∷ 0 ∷ 0x200 ∷ 0xC6CC ∷ 0 ∷ 0x5000 ∷ 0 ∷ 0x200 ∷ []) page))
+
+-- a register of the board i that is passed
+abbrev pub passed : List Board → ℕ → ℕ → ℕ
+passed (s ∷ l) zero k = reg (s .cpu) k
+passed (s ∷ l) (suc i) k = passed l i k
+passed [] i k = 0
+
+unfoldable pub courses : List Bool
+courses =
+    -- the board of a faulting attempt left out of a course
+    is (length (passing 2 7)) 2 1
+    ∷ is (passed (passing 2 7) 0 pc) 0x10A 0x100
+    ∷ is (passed (passing 2 7) 1 fault) 0x5000 0
+    -- a course beyond the budget, or of a run that is refused
+    ∷ is (length (passing 1 7)) 1 2
+    ∷ is (length (passing 2 8)) 0 2
+    ∷ []
+
 pub refusals-checked : T (all refusals)
-unfolding refusals run refusal goodBank
+unfolding refusals run refusal goodBank advance turn step instructionStep attempt act finish fetchInstruction confinedTurn confinedAttempt tryActed counted executeMonadic executeNormal execute kcall pushFrame pushPair throughVector readWord32 fetchParcel fetchParcels fetchAfter fetchText onward _>>=_ parcelRequest frameRequest readFrame writeFrame interpret after touch follow access segmentOf segment nonpagedOf walkFrom walk route decodeShort decodeBare decodeOf load storeAnswer storeMemory
 refusals-checked = tt
 
 pub steps-checked : T (all steps)
@@ -176,3 +220,7 @@ steps-checked = tt
 pub confinedRuns-checked : T (all confinedRuns)
 unfolding confinedRuns run refusal goodBank advance confinedTurn confinedAttempt tryActed fetchInstruction counted executeNormal execute addOf interlock move perform dyadic located locate readPlace readOperand writePlace writeAccumulator checkRegisters fetchParcel fetchParcels fetchAfter fetchText onward _>>=_ request parcelRequest readMemory readData writeMemory writeData interpret after touch follow access segmentOf segment nonpagedOf pageOf walkFrom walk route marked fresh recorded decodeShort decodeDyadic decodeMonadic decodeThree decodeWide decodeBare decodeOf load storeAnswer storeMemory
 confinedRuns-checked = tt
+
+pub courses-checked : T (all courses)
+unfolding courses course passedOf refusal goodBank confinedTurn confinedAttempt tryActed fetchInstruction counted executeNormal execute move perform dyadic located locate readPlace readOperand writePlace checkRegisters fetchParcel fetchParcels fetchAfter fetchText onward _>>=_ request parcelRequest readMemory readData writeMemory writeData interpret after touch follow access segmentOf segment nonpagedOf walkFrom walk route decodeDyadic decodeWide decodeBare decodeOf load storeAnswer storeMemory
+courses-checked = tt

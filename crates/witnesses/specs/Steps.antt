@@ -1,16 +1,16 @@
 -- Wrong answers of a step, each on a small board on which the definition answers otherwise.
 -- Assumes nothing.
 use Prim.Native.Nat.{ℕ}
-use mathlib.Core.Bool.{Bool, false}
+use mathlib.Core.Bool.{Bool}
 use mathlib.Core.List.{List, [], _∷_}
 use lib.Dec.{T}
 use Rattle.word.specs.Sums.{addOf, subOf}
-use Rattle.memory.specs.Bytes.{load, storeAnswer, storeMemory}
+use Rattle.memory.specs.Bytes.{Memory, load, storeAnswer, storeMemory}
 use Rattle.isa.specs.Decode.{decodeShort, decodeDyadic, decodeMonadic, decodeThree, decodeWide, decodePrefixed, decodeBare, decodeOf}
 use Rattle.mmu.specs.Walk.{segmentOf, segment, nonpagedOf, pageOf, walkFrom, walk, route, marked, fresh, recorded}
 use Rattle.program.specs.Access.{touch, follow, access}
 use Rattle.program.specs.Program.{interpret, after}
-use Rattle.machine.specs.Registers.{goodBank, config, isp, pc, psw, shad, timer2, traceDue, timer1Due, timer2Due}
+use Rattle.machine.specs.Registers.{goodBank, isp, msp, pc, psw, shad, sp, traceDue}
 use Rattle.machine.specs.Status.{with}
 use Rattle.access.specs.Data.{readMemory, readData, writeMemory, writeData, readFrame, writeFrame, checkStore}
 use Rattle.access.specs.Parts.{onward, _>>=_, request, parcelRequest, frameRequest}
@@ -19,12 +19,11 @@ use Rattle.exec.specs.Operands.{located, locate, readPlace, readOperand, writeR
 use Rattle.exec.specs.Dyadic.{checkDivisor, compute, accumulate, interlock, move, perform, dyadic}
 use Rattle.exec.specs.Control.{readWord32, jump, call}
 use Rattle.exec.specs.Stack.{stackTarget, enterPlain, enterAt, enter}
-use Rattle.exec.specs.Frames.{pushPair, throughVector, interruptSequence, storePc, unimplementedSequence, reset}
+use Rattle.exec.specs.Frames.{pushPair, pushFrame, throughVector, exceptionSequence, storePc, unimplementedSequence}
 use Rattle.exec.specs.Execute.{executeMonadic, executeNormal, execute}
-use Rattle.step.specs.Events.{take}
 use Rattle.step.specs.Timers.{counted}
-use Rattle.step.specs.Step.{fetchInstruction, act, attempt, eventStep, finish, instructionStep, step}
-use Rattle.run.specs.Run.{board, Ended, turn, tryActed, confinedAttempt, confinedTurn, advance, refusal, run}
+use Rattle.step.specs.Step.{fetchInstruction, act, attempt, exceptionStep, finish, instructionStep, step}
+use Rattle.run.specs.Run.{Ended, turn, tryActed, confinedAttempt, confinedTurn, advance, refusal, run}
 use Rattle.witnesses.specs.Boards.{is, all, page, word, text, kernel, user, segmented, runs, confined, register, memoryWord}
 
 -- ---- instructions, at kernel level: the stack is the interrupt stack at 0x800
@@ -61,6 +60,14 @@ entered p = runs 1 (with kernel psw p) (text 0x100 (0x80F9 ∷ 0 ∷ 0x608 ∷ [
 abbrev pub trapped : Ended
 trapped = runs 1 kernel (word 0x408 0x308 (word 0x40C 0x30C (text 0x100 (0x2E00 ∷ []) page)))
 
+-- "CPU MOV v, REGISTER", by the register's number of Table 1-24
+abbrev pub registerMoved : ℕ → ℕ → List ℕ
+registerMoved v n = 0x2C00 ∷ 0xC6F7 ∷ 0 ∷ v ∷ 0 ∷ n ∷ []
+
+-- "CPU MOV 0x500, SP", with a PSW
+abbrev pub stackMoved : ℕ → Ended
+stackMoved p = runs 1 (with kernel psw p) (text 0x100 (registerMoved 0x500 3) page)
+
 unfoldable pub instructions : List Bool
 instructions =
     -- a step that moves nothing, or takes an event sequence though nothing is due
@@ -87,6 +94,11 @@ instructions =
     ∷ is (register (entered 0x80) traceDue) 1 0
     -- a trapped niladic through the vector of an unimplemented instruction
     ∷ is (register trapped pc) 0x308 0x30C
+    -- a write of SP that sets no MSP, or SHAD though the interrupt stack is current, or none where SP is
+    ∷ is (register (stackMoved 0) sp) 0x500 0x600
+    ∷ is (register (stackMoved 0) msp) 0x500 0x600
+    ∷ is (register (stackMoved 0) shad) 0x800 0x500
+    ∷ is (register (stackMoved 0x200) shad) 0x500 0x800
     ∷ []
 
 -- ---- exceptions, confined: nothing is mapped from 0x1000 on
@@ -95,63 +107,53 @@ instructions =
 abbrev pub twoFaults : Ended
 twoFaults = confined 1 user (segmented (text 0x100 (0xE3CC ∷ 0 ∷ 2 ∷ 0 ∷ 0x5000 ∷ []) page))
 
--- "CPU MOV 0, SP" at user level
-abbrev pub registerWritten : Ended
-registerWritten = confined 1 user (segmented (text 0x100 (0x2C00 ∷ 0xC6F7 ∷ 0 ∷ 0 ∷ 0 ∷ 3 ∷ []) page))
+-- "CPU MOV 0" to a register at user level
+abbrev pub registerWritten : ℕ → Ended
+registerWritten n = confined 1 user (segmented (text 0x100 (registerMoved 0 n) page))
 
--- "CALL 0x5000", whose target can't be fetched
+-- the same to number 13, which no register has, at kernel level: the exception's number is in its frame
+abbrev pub noRegister : Ended
+noRegister = runs 1 kernel (text 0x100 (registerMoved 0 13) page)
+
+-- "CALL 0x5000", whose target can't be fetched, and the step after it: confined, and with its event sequence
+abbrev pub callingAway : Memory
+callingAway = segmented (text 0x100 (0x80F1 ∷ 0 ∷ 0x5000 ∷ []) page)
+
 abbrev pub calledAway : Ended
-calledAway = confined 2 user (segmented (text 0x100 (0x80F1 ∷ 0 ∷ 0x5000 ∷ []) page))
+calledAway = confined 2 user callingAway
+
+abbrev pub savedAway : Ended
+savedAway = runs 2 user callingAway
+
+-- "MOV *0x5002, *0x200": neither aligned nor mapped
+abbrev pub unaligned : Ended
+unaligned = confined 1 user (segmented (text 0x100 (0xC6CC ∷ 0 ∷ 0x5002 ∷ 0 ∷ 0x200 ∷ []) page))
 
 unfoldable pub exceptions : List Bool
 exceptions =
     -- the destination before the source
     is (twoFaults .code) 0x4 0x8
+    -- translation before alignment
+    ∷ is (unaligned .code) 0x4 0x8
     -- a register at user level refused only as a source
-    ∷ is (registerWritten .stop) 2 0
-    ∷ is (registerWritten .code) 0x5 0
-    -- "saving a CALL's own PC when its target can't be fetched": the CALL is done, and the fault is its target's
+    ∷ is (registerWritten 3 .stop) 2 0
+    ∷ is (registerWritten 3 .code) 0x5 0
+    -- 0x6 before 0x5
+    ∷ is (registerWritten 13 .code) 0x5 0x6
+    ∷ is (memoryWord noRegister 0x7F4) 0x6 0x5
+    -- "saving a CALL's own PC when its target can't be fetched": the CALL is done, and the fetch fault of the next step
+    -- reports its target, and saves it in the frame
     ∷ is (calledAway .steps) 1 0
     ∷ is (calledAway .code) 0x7 0x9
     ∷ is (register calledAway pc) 0x5000 0x100
-    ∷ is (memoryWord calledAway 0x600) 0x106 0x100
-    ∷ []
-
--- ---- events
-
--- level 0 with the interrupt stack past memory
-abbrev pub resetBy : Ended
-resetBy = run false 1 0 (board (with (with (with kernel psw 0x7000) isp 0x8000) shad 0x8000) page)
-
--- both timers due, and interrupts of level 1 admitted
-abbrev pub bothTimers : Ended
-bothTimers = confined 1 (with (with (with user psw 0x1_7600) timer1Due 1) timer2Due 1) (segmented page)
-
--- level 0 while Timer2 counts completed instructions
-abbrev pub interrupted : Ended
-interrupted = run false 1 0 (board (with kernel config 0x0200_0000) page)
-
-unfoldable pub events : List Bool
-events =
-    -- a fault on the interrupt stack without a reset
-    is (register resetBy pc) 0 0x100
-    ∷ is (register resetBy shad) 0x7000 0x8000
-    -- Timer2 before Timer1
-    ∷ is (bothTimers .steps) 0 1
-    ∷ is (bothTimers .code) 0x17 0x18
-    -- an event sequence counted as a completed instruction
-    ∷ is (interrupted .steps) 1 0
-    ∷ is (register interrupted timer2) 0 1
+    ∷ is (memoryWord savedAway 0x7F4) 0x7 0
+    ∷ is (memoryWord savedAway 0x7F8) 0x5000 0x100
     ∷ []
 
 pub instructions-checked : T (all instructions)
-unfolding instructions run refusal goodBank advance turn step instructionStep attempt act finish fetchInstruction counted executeMonadic executeNormal execute unimplementedSequence storePc throughVector addOf subOf checkDivisor compute accumulate interlock move perform dyadic located locate readPlace readOperand writePlace writeAccumulator checkRegisters readWord32 jump call stackTarget enterPlain enterAt enter checkStore fetchParcel fetchParcels fetchAfter fetchPrefixed fetchText onward _>>=_ request parcelRequest frameRequest readMemory readData writeMemory writeData readFrame writeFrame interpret after touch follow access route decodeShort decodeDyadic decodeMonadic decodeThree decodeWide decodeBare decodeOf load storeAnswer storeMemory
+unfolding instructions decodePrefixed writeRegister run refusal goodBank advance turn step instructionStep attempt act finish fetchInstruction counted executeMonadic executeNormal execute unimplementedSequence storePc throughVector addOf subOf checkDivisor compute accumulate interlock move perform dyadic located locate readPlace readOperand writePlace writeAccumulator checkRegisters readWord32 jump call stackTarget enterPlain enterAt enter checkStore fetchParcel fetchParcels fetchAfter fetchPrefixed fetchText onward _>>=_ request parcelRequest frameRequest readMemory readData writeMemory writeData readFrame writeFrame interpret after touch follow access route decodeShort decodeDyadic decodeMonadic decodeThree decodeWide decodeBare decodeOf load storeAnswer storeMemory
 instructions-checked = tt
 
 pub exceptions-checked : T (all exceptions)
-unfolding exceptions run refusal goodBank advance confinedTurn confinedAttempt tryActed fetchInstruction counted executeMonadic executeNormal execute compute move perform dyadic located locate readPlace readOperand writeRegister writePlace checkRegisters readWord32 call fetchParcel fetchParcels fetchAfter fetchPrefixed fetchText onward _>>=_ request parcelRequest readMemory readData writeMemory writeData interpret after touch follow access segmentOf segment nonpagedOf pageOf walkFrom walk route marked fresh recorded decodeShort decodeDyadic decodeMonadic decodeThree decodeWide decodePrefixed decodeBare decodeOf load storeAnswer storeMemory
+unfolding exceptions run refusal goodBank advance turn step instructionStep attempt act finish exceptionStep exceptionSequence pushFrame pushPair throughVector frameRequest readFrame writeFrame confinedTurn confinedAttempt tryActed fetchInstruction counted executeMonadic executeNormal execute compute move perform dyadic located locate readPlace readOperand writeRegister writePlace checkRegisters readWord32 call fetchParcel fetchParcels fetchAfter fetchPrefixed fetchText onward _>>=_ request parcelRequest readMemory readData writeMemory writeData interpret after touch follow access segmentOf segment nonpagedOf pageOf walkFrom walk route marked fresh recorded decodeShort decodeDyadic decodeMonadic decodeThree decodeWide decodePrefixed decodeBare decodeOf load storeAnswer storeMemory
 exceptions-checked = tt
-
-pub events-checked : T (all events)
-unfolding events run refusal goodBank advance turn confinedTurn step eventStep take interruptSequence pushPair throughVector reset counted onward _>>=_ frameRequest readFrame writeFrame interpret after touch follow access route load storeAnswer storeMemory
-events-checked = tt
