@@ -81,8 +81,9 @@ def missing(name):
         return [] if name in FOLDERS or located(name) or edit.exists() else [name]
     if re.fullmatch(r'\w+(::\w+)+', name):
         return [] if function_exists(name) else [name]
-    if re.fullmatch(r"[\w'-]+(\.[\w'-]+)*", name):
-        return [part for part in name.split('.') if part not in KNOWN]
+    if re.fullmatch(r"[\w'-]+(\.[\w'-]+)?", name):
+        parts = set(name.split('.'))
+        return [] if name in KNOWN or any(parts <= names for names in ANTT.values()) else [name]
     words = re.findall(r"[A-Za-z][\w'-]*", name)
     return [word for word in words if re.search(r'[a-z][A-Z]|^[A-Z]|-', word) and word not in KNOWN]
 
@@ -122,7 +123,9 @@ def main():
         checked = re.findall(r'^pub ([\w-]+)-checked :', text, re.M)
         if checked and path.name not in cited:
             wrong.append('%s: a file of witnesses that no claim names' % path.name)
-        wrong += ['%s of %s: witnesses that no claim names' % (name, path.name) for name in checked if name not in cited]
+        beside = [line for line in claims.splitlines() if '`%s`' % path.name in line]
+        wrong += ['%s of %s: witnesses that no claim names' % (name, path.name)
+                  for name in checked if not any('`%s`' % name in line for line in beside)]
     print('\n'.join(dict.fromkeys(wrong)) or 'names: %d names of docs/CLAIMS.md are in the tree' % len(set(cited)))
     return 1 if wrong else 0
 
