@@ -15,8 +15,8 @@ use Rattle.word.specs.Products.{mulOf, udivOf, uremOf, divOf}
 use Rattle.word.specs.Shifts.{shlOf, ushrOf, shrOf}
 use Rattle.word.specs.declared.Width.{Width}
 use Rattle.word.specs.declared.Width.the-variants.{Byte, Half, Word}
-use Rattle.word.specs.Widths.{bitsOf, truncateOf, signExtendOf}
-use Rattle.word.proofs.WidthLaws.{bits-pos, bits-le, truncate-by-shifts, sign-extend-by-shifts}
+use Rattle.word.specs.Widths.{bitsOf, signExtendOf}
+use Rattle.word.proofs.WidthLaws.{bits-le, sign-extend-by-shifts}
 use Rattle.word.proofs.Laws.{shr-lt}
 use Rattle.word.specs.Tags.{badTagOf, checkedOf, taggedOf}
 
@@ -74,14 +74,11 @@ pub shr-fits : (b a u o : ℕ) (p : Bool) → b < 2 ^ 32 → p ≡ negativeOf b 
     → u + (0xFFFF_FFFF - o) < 2 ^ 32
 shr-fits b a u o p h n t e f = rw (shr-negative b a u o p n t e f) (shr-lt b a h)
 
--- the low bits of every width, by shifts to the top of a word and back
+-- every width is of at most 32 bits
 pub shifts-fit : (w : Width) (k : ℕ) → k ≡ bitsOf w → k ≤ 32
 shifts-fit w k e = rw e (bits-le w)
 
-pub truncated : (w : Width) (x k y r : ℕ) → k ≡ bitsOf w → y ≡ shlOf x (32 - k) → r ≡ ushrOf y (32 - k) → r ≡ truncateOf (bitsOf w) x
-truncated w x k y r e f g = g ∙ rw (f, e) (truncate-by-shifts (bitsOf w) x (bits-pos w) (bits-le w))
-
--- the same by any n, signed
+-- the low bits by shifts to the top of a word and back by any n, signed
 pub extended : (n x y r : ℕ) → y ≡ shlOf x n → r ≡ shrOf y n → r ≡ signExtendOf (32 - n % 32) x
 extended n x y r e f =
     let k : 32 - (32 - n % 32) ≡ n % 32 = omega arith in

@@ -10,8 +10,8 @@ use lib.Pow.{pow-pos, pow-add, pow-mono, mod-pow-add, shl-shr, ones-split, ones-
 use borrow.Author.Tests.{leb-true, leb-false, le-leb, lt-leb}
 use Rattle.word.specs.declared.Width.{Width}
 use Rattle.word.specs.declared.Width.the-variants.{Byte, Half, Word}
-use Rattle.word.specs.Shifts.{shlOf, shrOf, ushrOf}
-use Rattle.word.specs.Widths.{bitsOf, truncateOf, zeroExtendOf, signExtendOf}
+use Rattle.word.specs.Shifts.{shlOf, shrOf}
+use Rattle.word.specs.Widths.{bitsOf, truncateOf, signExtendOf}
 use Rattle.laws.proofs.Cases.{by-test}
 use Rattle.word.proofs.Laws.{low-lt}
 
@@ -82,10 +82,7 @@ sign-extend-negative k x p l h g =
     in
     simp (t, le-leb (2 ^ (k - 1)) y (omega arith)) (sym e)
 
--- extending what was truncated gives back what fits: a number of k bits, unsigned or signed
-pub zero-extend-fits : (k x : ℕ) → x < 2 ^ k → zeroExtendOf k (truncateOf k x) ≡ x
-zero-extend-fits k x h = truncate-truncate k x ∙ truncate-fits k x h
-
+-- extending what was truncated gives back what fits: a signed number of k bits
 pub sign-extend-fits : (k x : ℕ) → 0 < k → k ≤ 32 → x < 2 ^ 32 → (x < 2 ^ (k - 1)) ⊎ (2 ^ 32 - 2 ^ (k - 1) ≤ x)
     → signExtendOf k (truncateOf k x) ≡ x
 sign-extend-fits k x p l g =
@@ -93,7 +90,7 @@ sign-extend-fits k x p l g =
     (λ h. sign-extend-truncate k x ∙ sign-extend-positive k x p h)
     (λ h. sign-extend-truncate k x ∙ sign-extend-negative k x p l h g)
 
--- shifted to the top of a word and back, the low k bits are truncated, or sign-extended
+-- shifted to the top of a word and back, the low k bits are sign-extended
 scaled : (a b c : ℕ) → 0 < c → leb (a * c) (b * c) ≡ leb a b
 scaled a b c p =
     by-test (leb a b)
@@ -113,10 +110,6 @@ module _ (k x : ℕ) (p : 0 < k) (l : k ≤ 32) where
       ∙ ap (λ (n : ℕ). x * 2 ^ (32 - k) % 2 ^ n) (sym total)
       ∙ mod-pow-add (x * 2 ^ (32 - k)) k (32 - k)
       ∙ simp (shl-shr, mul-mod-left) (add-zero (truncateOf k x * 2 ^ (32 - k)))
-
-  pub truncate-by-shifts : ushrOf (shlOf x (32 - k)) (32 - k) ≡ truncateOf k x
-  truncate-by-shifts =
-      ap (λ (n : ℕ). ushrOf n (32 - k)) to-top ∙ simp count (shl-shr (truncateOf k x) (32 - k))
 
   sign-at-top : leb (2 ^ 31) (truncateOf k x * 2 ^ (32 - k)) ≡ leb (2 ^ (k - 1)) (truncateOf k x)
   sign-at-top =

@@ -17,13 +17,9 @@ bytesOf Byte = 1
 bytesOf Half = 2
 bytesOf Word = 4
 
--- the least significant k bits
+-- the least significant k bits: an unsigned operand's at 32 bits too, whose high-order bits are cleared
 abbrev pub truncateOf : ℕ → ℕ → ℕ
 truncateOf k x = x % 2 ^ k
-
--- an unsigned operand at 32 bits: the high-order bits are cleared, so the low k bits stay
-abbrev pub zeroExtendOf : ℕ → ℕ → ℕ
-zeroExtendOf k x = truncateOf k x
 
 -- a signed operand at 32 bits: copies of bit k - 1 above the low k bits
 abbrev pub signExtendOf : ℕ → ℕ → ℕ

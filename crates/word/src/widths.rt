@@ -1,11 +1,10 @@
-// Operands of less than a word: cut to their width, and extended to a word (1.2).
+// Operands of less than a word, extended to a word (1.2).
 use crate::Width;
 use crate::shifts::shl;
 use crate::shifts::shr;
-use crate::shifts::ushr;
 ghost use mathlib.Core.Path.{_≡_};
 ghost use Prim.Native.Nat.{_-_, _%_};
-ghost use Rattle.word.specs.Widths.{bitsOf, bytesOf, truncateOf, zeroExtendOf, signExtendOf};
+ghost use Rattle.word.specs.Widths.{bitsOf, bytesOf, signExtendOf};
 
 // The width in bits.
 pub fn bits(w: Width) -> u32
@@ -27,21 +26,6 @@ pub fn bytes(w: Width) -> u32
         Width::Half => 2,
         Width::Word => 4,
     }
-}
-
-// The low bits of a result.
-pub fn truncate(w: Width, x: u32) -> u32
-    ensures { λ r. ⌜ r ≡ truncateOf (bitsOf w) x ⌝ }
-{
-    let n = 32 - bits(w);
-    ushr(shl(x, n), n)
-}
-
-// The low bits of an unsigned operand, at 32 bits.
-pub fn zero_extend(w: Width, x: u32) -> u32
-    ensures { λ r. ⌜ r ≡ zeroExtendOf (bitsOf w) x ⌝ }
-{
-    truncate(w, x)
 }
 
 // A signed number in all but the top bits, as many as the low five bits of n say, at 32 bits.
