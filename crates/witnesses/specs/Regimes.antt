@@ -69,6 +69,7 @@ regimes =
     is (confined 1 user (reading kernels) .code) 0x8 0
     ∷ is (confined 1 user (writing kernels) .code) 0x9 0
     ∷ is (confined 1 (fetching user) (writing kernels) .code) 0x7 0x9
+    -- a read at user level without translation, a write, and a fetch: 0x400000 is past memory
     ∷ is (memoryWord (confined 1 user (reading users)) 0x300) 9 0
     ∷ is (memoryWord (confined 1 user (writing users)) 0x200) 5 0
     ∷ is (confined 1 (fetching user) (writing users) .steps) 1 0
@@ -79,7 +80,7 @@ regimes =
     -- a write at kernel level to a page that is only to be read
     ∷ is (exceptionIn (runs 1 virtual (writing readOnly))) 0x9 0
     ∷ is (memoryWord (runs 1 virtual (writing readOnly)) 0x200) 0 5
-    -- a read translated though PSW bit 16 is 0, a write, and a fetch: 0x400000 is past memory
+    -- a read translated though PSW bit 16 is 0, a write, and a fetch
     ∷ is (exceptionIn (runs 1 kernel (reading users))) 0xA 0
     ∷ is (exceptionIn (runs 1 kernel (writing users))) 0xA 0
     ∷ is (exceptionIn (runs 1 (fetching kernel) (writing users))) 0xA 0
