@@ -121,10 +121,12 @@ all (t ∷ ts) = t && all ts
 -- a row of an instruction: destination and source before, the destination after, and the flags after by those before
 unfoldable pub cases : List Bool
 cases =
-    -- "ADD 0x7FFFFFFF + 1: 0x80000000, C 0, V 1."
+    -- "ADD 0x7FFFFFFF + 1: 0x80000000, C 0, V 1."; either operand as the destination
     becomes (onWords add) 0x7FFF_FFFF 1 0x8000_0000 (λ f c v. flags f 0 1)
-    -- "0xFFFFFFFF + 1: 0, C 1, V 0."
+    ∷ becomes (onWords add) 1 0x7FFF_FFFF 0x8000_0000 (λ f c v. flags f 0 1)
+    -- "0xFFFFFFFF + 1: 0, C 1, V 0."; either operand as the destination
     ∷ becomes (onWords add) 0xFFFF_FFFF 1 0 (λ f c v. flags f 1 0)
+    ∷ becomes (onWords add) 1 0xFFFF_FFFF 0 (λ f c v. flags f 1 0)
     -- "0x80000000 twice: 0, C 1, V 1."
     ∷ becomes (onWords add) 0x8000_0000 0x8000_0000 0 (λ f c v. flags f 1 1)
     -- "SUB 0 - 1: 0xFFFFFFFF, C 1, V 0."
