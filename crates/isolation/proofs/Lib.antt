@@ -7,7 +7,4 @@ mod Turns
 pub mod Runs
 pub mod Courses
 pub mod Unconfined
-mod Pages
-pub mod Witnesses
-mod Trial
 pub mod Confined

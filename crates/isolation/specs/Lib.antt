@@ -1,5 +1,4 @@
 pub mod Sealed
 pub mod Course
 pub mod Isolation
-pub mod Witness
 pub mod Confinement

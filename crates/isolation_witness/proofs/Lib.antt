@@ -1,0 +1,4 @@
+mod Laid
+mod Tests
+pub mod Witnesses
+pub mod Needed

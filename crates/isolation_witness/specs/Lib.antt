@@ -1,0 +1,4 @@
+pub mod Memories
+pub mod Witness
+pub mod Premises
+pub mod Counterexamples
