@@ -1,4 +1,6 @@
-// The board program; its loop is the library's, so that other inputs are tested with no proof of their own.
+// The board program: a board of 65,536 zero bytes, lent to the library; its loop is the library's, so that other inputs are
+// tested with no proof of their own.
 fn main() {
-    serving::serve();
+    let mut memory = [0u8; 65536];
+    serving::serve(&mut memory);
 }

@@ -9,10 +9,9 @@ use native.Mathlib.Omega.{arith}
 use lib.ListN.{length, getD, take, drop, length-drop, drop-of-length-le}
 use lib.Seq.{drop-cons, drop-drop, getD-drop}
 use lib.Dec.{eqb, leb}
-use borrow.Author.Tests.{eq-eqb, ne-eqb, lt-ltb, le-ltb, le-leb, lt-leb, leb-true, leb-false}
+use borrow.Author.Tests.{eq-eqb, ne-eqb, le-leb, lt-leb, leb-true, leb-false}
 use Rattle.laws.proofs.Cases.{by-test}
-use Rattle.conversation.specs.Code.{Desk}
-use Rattle.conversation.specs.Blocks.{newlineAt, ontoEnded, endedLines, unended, Talked, talked, blockTold}
+use Rattle.conversation.specs.Blocks.{newlineAt, ontoEnded, endedLines}
 
 -- ---- the search
 
@@ -119,21 +118,3 @@ ended-none (b ∷ t) h =
     (λ e. absurd (omega (arith, rw e at h)))
     (λ e. let g : length t ≤ newlineAt t = omega (arith, rw e at h) in
     rw e (ap (ontoEnded b) (ended-none t g)))
-
-pub unended-none : (t : List ℕ) → length t ≤ newlineAt t → unended t ≡ t
-unfolding unended
-unended-none [] h = refl
-unended-none (b ∷ t) h = rw (le-ltb (newlineAt (b ∷ t)) (length (b ∷ t)) h) refl
-
-pub unended-first : (t : List ℕ) → newlineAt t < length t → unended t ≡ unended (drop (suc (newlineAt t)) t)
-unfolding newlineAt unended
-unended-first [] h = absurd (omega arith)
-unended-first (b ∷ t) h =
-    by-test (eqb b 10)
-    (λ e. rw (e, lt-ltb 0 (suc (length t)) (omega arith)) refl)
-    (λ e. let g : newlineAt t < length t = omega (arith, rw e at h) in
-    rw (e, lt-ltb (suc (newlineAt t)) (suc (length t)) (omega arith)) (unended-first t g))
-
--- the rest of a block begins within it
-pub rest-within : (t : List ℕ) (n l r : ℕ) (d d′ : Desk) → talked d l r ≡ blockTold n t d′ → r ≤ length t
-rest-within t n l r d d′ e = omega (arith, ap (λ (x : Talked). x .rest) e)

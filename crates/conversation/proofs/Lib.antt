@@ -4,3 +4,5 @@ pub mod StreamLaws
 pub mod RoomLaws
 mod TellLaws
 mod TurnLaws
+mod CarryLaws
+mod PartLaws

@@ -1,9 +1,9 @@
--- No answer is left out where the buffer has thirteen bytes for each byte of a block.
+-- No answer is left out where the buffer has thirteen bytes for each byte that was read.
 -- Assumes nothing.
 use mathlib.Core.Path.{_≡_, refl, sym, ap, _∙_}
-use mathlib.Core.Bool.{true, false}
+use mathlib.Core.Bool.{Bool, true, false, _&&_}
 use mathlib.Core.List.{List, [], _∷_}
-use Prim.Native.Nat.{ℕ, zero, suc, _+_, _-_, _*_, _≤_}
+use Prim.Native.Nat.{ℕ, zero, suc, _+_, _*_, _≤_}
 use native.Mathlib.Nat.{add-assoc, add-zero}
 use native.Mathlib.Omega.{arith}
 use lib.ListN.{length, length-append}
@@ -20,7 +20,8 @@ use Rattle.lines.proofs.FrameLaws.{least, bad-length}
 use Rattle.lines.proofs.AnswerLaws.{length-written, written-on, fits}
 use Rattle.conversation.specs.Conversation.{Answered, unlessDone, lineAnswer, answerOf, next, conversation}
 use Rattle.conversation.specs.Code.{Desk, desk}
-use Rattle.conversation.specs.Blocks.{ontoEnded, endedLines, unended, toldAll, lastOf, talked, blockTold}
+use Rattle.conversation.specs.Blocks.{ontoEnded, endedLines, isLongRun, together, toldAll}
+use Rattle.conversation.specs.Stream.{turnLines, turnOf}
 
 -- ---- what a line prints at most
 
@@ -87,11 +88,15 @@ room-ended (b ∷ t) =
     (λ e. rw e (omega (arith, room-ended t)))
     (λ e. rw e (omega (arith, room-ended t, room-onto b (endedLines t))))
 
--- ---- a block
+room-together : (begun : Bool) (l : List (List ℕ)) → room (together begun l) ≤ room l
+unfolding together room
+room-together begun [] = omega arith
+room-together begun (s ∷ l) =
+    by-test (begun && isLongRun (frameOf s)) (λ e. rw e (omega arith)) (λ e. rw e (omega (arith, room-together true l)))
 
-pub block-printed : (n : ℕ) (t : List ℕ) (b : Board) (o : List ℕ) → length t * 13 ≤ length o
-    → blockTold n t (desk b (output o 0))
-    ≡ talked (talkedOver (conversation (next n) (endedLines t) b) o 0) (lastOf n (endedLines t)) (length t - length (unended t))
-block-printed n t b o h =
-    ap (λ (d : Desk). talked d (lastOf n (endedLines t)) (length t - length (unended t)))
-    (roomy (endedLines t) (next n) b o 0 (omega (arith, room-ended t)))
+-- ---- a turn of the loop
+
+pub turn-printed : (n : ℕ) (t : List ℕ) (b : Board) (o : List ℕ) → length t * 13 ≤ length o
+    → turnOf n t (desk b (output o 0)) .desk ≡ talkedOver (conversation (next n) (turnLines t) b) o 0
+turn-printed n t b o h =
+    roomy (turnLines t) (next n) b o 0 (omega (arith, room-ended t, room-together false (endedLines t)))

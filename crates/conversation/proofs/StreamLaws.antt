@@ -1,20 +1,21 @@
--- In whatever blocks the input comes, the same is printed.
+-- In whatever pieces the input comes, the same is printed.
 -- Assumes nothing.
 use mathlib.Core.Path.{_≡_, refl, sym, ap, _∙_}
+use mathlib.Core.Bool.{false}
 use mathlib.Core.List.{List, [], _∷_, _++_, append-assoc, append-nil}
 use Prim.Native.Nat.{ℕ, zero, suc, _+_, _≤_, _<_}
 use native.Mathlib.Omega.{arith}
-use lib.ListN.{length, take, length-append}
+use lib.ListN.{length, take, drop, length-append}
 use lib.Seq.{take-all, length-take-le}
 use lib.Dec.{leb, eqb}
-use borrow.Author.Tests.{leb-true, leb-false}
+use borrow.Author.Tests.{leb-true, leb-false, ltb-false}
 use Rattle.laws.proofs.Cases.{by-test}
 use Rattle.run.specs.Run.{Board}
 use Rattle.lines.proofs.FrameLaws.{too-long}
 use Rattle.conversation.specs.Conversation.{Answered, lineAnswer, answerOf, after, next, conversation, linesOf, startBoard, boardProgram}
-use Rattle.conversation.specs.Blocks.{newlineAt, endedLines, unended, lastOf}
-use Rattle.conversation.specs.Stream.{lastLine, streamed, whole}
-use Rattle.conversation.proofs.LineLaws.{Plain, lines-on, lines-split, unended-plain}
+use Rattle.conversation.specs.Blocks.{newlineAt, endsLine, sizeOf, lastOf}
+use Rattle.conversation.specs.Stream.{turnLines, keptOf, lastLine, streamed, whole}
+use Rattle.conversation.proofs.LineLaws.{Plain, lines-on, lines-split}
 
 -- ---- lines after lines
 
@@ -76,28 +77,34 @@ cut n c u b p =
 
 -- ---- the end of input
 
-ended : (c : List ℕ) → Plain c → linesOf (c ++ []) ≡ lastLine c
+pub last-line : (c : List ℕ) → Plain c → linesOf c ≡ lastLine c
 unfolding newlineAt linesOf
-ended [] p = refl
-ended (b ∷ c) p = lines-on b c [] p ∙ (λ i. append-nil (b ∷ c) i ∷ [])
+last-line [] p = refl
+last-line (b ∷ c) p = ap linesOf (sym (append-nil (b ∷ c))) ∙ lines-on b c [] p ∙ (λ i. append-nil (b ∷ c) i ∷ [])
 
--- ---- blocks
+-- ---- turns
 
-pub streamed-is : (xs : List (List ℕ)) (n : ℕ) (c : List ℕ) (b : Board) → Plain c
-    → streamed n (take 75 c) xs b ≡ conversation (next n) (linesOf (c ++ whole xs)) b .printed
+-- bytes that are kept say as much as all
+kept-lines : (n : ℕ) (t u : List ℕ) (b : Board) → conversation n (linesOf (keptOf t ++ u)) b ≡ conversation n (linesOf (t ++ u)) b
+kept-lines n t u b =
+    by-test (endsLine t) (λ h. rw h refl) (λ h. rw h (cut n t u b (ltb-false (newlineAt t) (length t) h)))
+
+pub streamed-is : (xs : List (List ℕ)) (n : ℕ) (c : List ℕ) (b : Board)
+    → streamed n c xs b ≡ conversation (next n) (linesOf (c ++ whole xs)) b .printed
 unfolding streamed
-streamed-is [] n c b p =
-    sym (ap (λ (l : List (List ℕ)). conversation (next n) l b .printed) (ended (take 75 c) (plain-take 75 c p)))
-    ∙ ap (λ (a : Answered). a .printed) (cut (next n) c [] b p)
-streamed-is (x ∷ xs) n c b p =
-    let t = take 75 c ++ x in
-    let a = conversation (next n) (endedLines t) b in
-    ap (λ (w : List ℕ). a .printed ++ w) (streamed-is xs (lastOf n (endedLines t)) (unended t) (a .board) (unended-plain t))
-    ∙ sym (conversed n (endedLines t) (linesOf (unended t ++ whole xs)) b)
-    ∙ sym (ap (λ (l : List (List ℕ)). conversation (next n) l b .printed) (lines-split t (whole xs)))
-    ∙ ap (λ (l : List ℕ). conversation (next n) (linesOf l) b .printed) (append-assoc (take 75 c) x (whole xs))
-    ∙ ap (λ (a : Answered). a .printed) (cut (next n) c (x ++ whole xs) b p)
+streamed-is [] n c b = ap (λ (t : List ℕ). conversation (next n) (linesOf t) b .printed) (sym (append-nil c))
+streamed-is (x ∷ xs) n c b =
+    let t = c ++ x in
+    let l = turnLines t in
+    let a = conversation (next n) l b in
+    let rest = drop (sizeOf l) t in
+    ap (λ (w : List ℕ). a .printed ++ w)
+    (streamed-is xs (lastOf n l) (keptOf rest) (a .board)
+    ∙ ap (λ (y : Answered). y .printed) (kept-lines (next (lastOf n l)) rest (whole xs) (a .board)))
+    ∙ sym (conversed n l (linesOf (rest ++ whole xs)) b)
+    ∙ sym (ap (λ (y : List (List ℕ)). conversation (next n) y b .printed) (lines-split (whole xs) false t))
+    ∙ ap (λ (y : List ℕ). conversation (next n) (linesOf y) b .printed) (append-assoc c x (whole xs))
 
--- the board program's answers, in whatever blocks its input comes
+-- the board program's answers, in whatever pieces its input comes
 pub stream : (xs : List (List ℕ)) → streamed 0 [] xs startBoard ≡ boardProgram (whole xs)
-stream xs = streamed-is xs 0 [] startBoard (omega arith)
+stream xs = streamed-is xs 0 [] startBoard

@@ -1,7 +1,7 @@
 -- A line answered: the ways out of each part, and a line by its frame.
 -- Assumes nothing.
 use mathlib.Core.Path.{_≡_, refl, sym, ap, _∙_}
-use mathlib.Core.Bool.{true, false}
+use mathlib.Core.Bool.{Bool, true, false, _&&_}
 use mathlib.Core.List.{List, []}
 use Prim.Native.Nat.{ℕ, zero, suc, _+_}
 use native.Mathlib.Nat.{add-zero}
@@ -14,11 +14,13 @@ use Rattle.machine.specs.Status.{Cpu, cpu, reg}
 use Rattle.run.specs.Run.{board, Ended, ended, run}
 use Rattle.lines.specs.declared.Frame.{Frame}
 use Rattle.lines.specs.declared.Frame.the-variants.{Set, Store, Run, Confined, Bad}
-use Rattle.lines.specs.Lines.{frameOf}
+use Rattle.lines.specs.Lines.{frameOf, numbersOf}
+use Rattle.lines.proofs.FrameLaws.{same-frame}
 use Rattle.lines.specs.Stores.{Stored, stored, storeOf}
 use Rattle.lines.specs.Answers.{Output, output, printed, refusedLine, ranLine}
 use Rattle.conversation.specs.Conversation.{unlessDone, hasRun, answerOf}
 use Rattle.conversation.specs.Code.{Desk, desk, laid}
+use Rattle.conversation.specs.Blocks.{isLongRun, told, toldUnless}
 
 -- ---- nothing printed, and a refusal printed
 
@@ -52,34 +54,56 @@ run-told n stop code q k m o o′ p x e h = ap (desk (board k m)) h ∙ ap (λ (
 
 -- ---- a line, by its frame
 
-module _ (n : ℕ) (s : List ℕ) (b : Bank) (q : Cache) (m o : List ℕ) (p : ℕ) (f : Frame) (e : f ≡ frameOf s) where
+module _ (n : ℕ) (s : List ℕ) (b : Bank) (q : Cache) (m o : List ℕ) (p : ℕ) (f : Frame) where
   framed : (x : Frame) (d : Desk) → f ≡ x → d ≡ laid (answerOf n s (board (cpu b q) m) x) (output o p)
-      → d ≡ laid (answerOf n s (board (cpu b q) m) (frameOf s)) (output o p)
-  framed x d g h = h ∙ ap (λ (y : Frame). laid (answerOf n s (board (cpu b q) m) y) (output o p)) (sym g ∙ e)
+      → d ≡ laid (answerOf n s (board (cpu b q) m) f) (output o p)
+  framed x d g h = h ∙ ap (λ (y : Frame). laid (answerOf n s (board (cpu b q) m) y) (output o p)) (sym g)
 
   pub told-set : (a w x : ℕ) (d : Bank) (o′ : List ℕ) → f ≡ Set a w → d ≡ setRegister b a w .bank
       → output o′ x ≡ printed (unlessDone n (setRegister b a w .refusal)) (output o p)
-      → desk (board (cpu d q) m) (output o′ x) ≡ laid (answerOf n s (board (cpu b q) m) (frameOf s)) (output o p)
+      → desk (board (cpu d q) m) (output o′ x) ≡ laid (answerOf n s (board (cpu b q) m) f) (output o p)
   unfolding answerOf
   told-set a w x d o′ g h k = framed (Set a w) _ g (λ i. desk (board (cpu (h i) q) m) (k i))
 
   pub told-store : (a x : ℕ) (l o′ : List ℕ) → f ≡ Store a → l ≡ storeOf s m a .memory
       → output o′ x ≡ printed (unlessDone n (storeOf s m a .refusal)) (output o p)
-      → desk (board (cpu b q) l) (output o′ x) ≡ laid (answerOf n s (board (cpu b q) m) (frameOf s)) (output o p)
+      → desk (board (cpu b q) l) (output o′ x) ≡ laid (answerOf n s (board (cpu b q) m) f) (output o p)
   unfolding answerOf
   told-store a x l o′ g h k = framed (Store a) _ g (λ i. desk (board (cpu b q) (h i)) (k i))
 
   pub told-run : (k l : ℕ) (d : Desk) → f ≡ Run k l → d ≡ laid (hasRun (run false k l (board (cpu b q) m))) (output o p)
-      → d ≡ laid (answerOf n s (board (cpu b q) m) (frameOf s)) (output o p)
+      → d ≡ laid (answerOf n s (board (cpu b q) m) f) (output o p)
   unfolding answerOf
   told-run k l d g h = framed (Run k l) d g h
 
   pub told-confined : (k l : ℕ) (d : Desk) → f ≡ Confined k l → d ≡ laid (hasRun (run true k l (board (cpu b q) m))) (output o p)
-      → d ≡ laid (answerOf n s (board (cpu b q) m) (frameOf s)) (output o p)
+      → d ≡ laid (answerOf n s (board (cpu b q) m) f) (output o p)
   unfolding answerOf
   told-confined k l d g h = framed (Confined k l) d g h
 
   pub told-bad : (x : ℕ) (o′ : List ℕ) → f ≡ Bad → output o′ x ≡ printed (refusedLine 7 n) (output o p)
-      → desk (board (cpu b q) m) (output o′ x) ≡ laid (answerOf n s (board (cpu b q) m) (frameOf s)) (output o p)
+      → desk (board (cpu b q) m) (output o′ x) ≡ laid (answerOf n s (board (cpu b q) m) f) (output o p)
   unfolding answerOf
   told-bad x o′ g h = framed Bad _ g (ap (desk (board (cpu b q) m)) h)
+
+-- ---- a run of many steps
+
+pub long-run : (f : Frame) (budget level : ℕ) → f ≡ Run budget level → leb 4096 budget ≡ isLongRun f
+long-run f budget level e = ap isLongRun (sym e)
+
+pub long-confined : (f : Frame) (budget level : ℕ) → f ≡ Confined budget level → leb 4096 budget ≡ isLongRun f
+long-confined f budget level e = ap isLongRun (sym e)
+
+-- ---- a line, answered or waiting, by the frame that it is
+
+module _ (begun : Bool) (n : ℕ) (s : List ℕ) (d : Desk) (f : Frame) (e : numbersOf f ≡ numbersOf (frameOf s)) (l : Bool) (g : l ≡ isLongRun f) where
+  test : begun && l ≡ begun && isLongRun (frameOf s)
+  test = ap (λ (x : Bool). begun && x) (g ∙ ap isLongRun (same-frame f (frameOf s) e))
+
+  pub line-waits : begun && l ≡ true → told d true ≡ toldUnless begun n s d
+  line-waits h = rw (sym test ∙ h) refl
+
+  pub line-told : (x : Desk) → begun && l ≡ false → x ≡ laid (answerOf n s (d .board) f) (d .output) → told x false ≡ toldUnless begun n s d
+  line-told x h k =
+      rw (sym test ∙ h)
+      (ap (λ (y : Desk). told y false) (k ∙ ap (λ (y : Frame). laid (answerOf n s (d .board) y) (d .output)) (same-frame f (frameOf s) e)))

@@ -1,10 +1,13 @@
--- A block of input: the lines that end in it, and what is left of it for the next one.
+-- A block of input: the lines that end in it, those of them that are answered together, and where the rest begins.
 -- Assumes nothing.
-use Prim.Native.Nat.{ℕ, suc, _-_}
-use mathlib.Core.Bool.{cond}
+use Prim.Native.Nat.{ℕ, suc, _+_}
+use mathlib.Core.Bool.{Bool, true, false, cond, _&&_}
 use mathlib.Core.List.{List, [], _∷_}
-use lib.ListN.{length}
-use lib.Dec.{eqb, ltb}
+use lib.ListN.{length, drop}
+use lib.Dec.{eqb, leb, ltb}
+use Rattle.lines.specs.declared.Frame.{Frame}
+use Rattle.lines.specs.declared.Frame.the-variants.{Set, Store, Run, Confined, Bad}
+use Rattle.lines.specs.Lines.{frameOf}
 use Rattle.lines.specs.Answers.{newline}
 use Rattle.conversation.specs.Conversation.{next}
 use Rattle.conversation.specs.Code.{Desk, toldOf}
@@ -13,6 +16,10 @@ use Rattle.conversation.specs.Code.{Desk, toldOf}
 unfoldable pub newlineAt : List ℕ → ℕ
 newlineAt [] = 0
 newlineAt (b ∷ t) = cond (eqb b newline) 0 (suc (newlineAt t))
+
+-- whether a line ends in a text
+abbrev pub endsLine : List ℕ → Bool
+endsLine t = ltb (newlineAt t) (length t)
 
 -- a byte in front of the first line, if one ends
 abbrev pub ontoEnded : ℕ → List (List ℕ) → List (List ℕ)
@@ -24,10 +31,41 @@ unfoldable pub endedLines : List ℕ → List (List ℕ)
 endedLines [] = []
 endedLines (b ∷ t) = cond (eqb b newline) ([] ∷ endedLines t) (ontoEnded b (endedLines t))
 
--- what stands after the last newline
-unfoldable pub unended : List ℕ → List ℕ
-unended [] = []
-unended (b ∷ t) = cond (ltb (newlineAt (b ∷ t)) (length (b ∷ t))) (unended t) (b ∷ t)
+-- ---- "Answers that are there are written before a run of many steps begins"
+
+-- a write costs less than a fiftieth of as many steps
+abbrev pub manySteps : ℕ
+manySteps = 4096
+
+abbrev pub isLongRun : Frame → Bool
+isLongRun (Set place word) = false
+isLongRun (Store address) = false
+isLongRun (Run budget level) = leb manySteps budget
+isLongRun (Confined budget level) = leb manySteps budget
+isLongRun Bad = false
+
+-- a line put to the desk, unless it is a long run and others have begun; then it waits
+pub record Told : Type 0 where
+  pub desk : Desk
+  pub waits : Bool
+
+abbrev pub told : Desk → Bool → Told
+told d b = record { desk = d; waits = b }
+
+abbrev pub toldUnless : Bool → ℕ → List ℕ → Desk → Told
+toldUnless begun n s d = cond (begun && isLongRun (frameOf s)) (told d true) (told (toldOf n s d) false)
+
+-- of lines that end, those that are answered before a write: up to a long run, unless that is the first (none has begun)
+unfoldable pub together : Bool → List (List ℕ) → List (List ℕ)
+together begun [] = []
+together begun (s ∷ t) = cond (begun && isLongRun (frameOf s)) [] (s ∷ together true t)
+
+-- the bytes of lines, with their newlines
+unfoldable pub sizeOf : List (List ℕ) → ℕ
+sizeOf [] = 0
+sizeOf (s ∷ t) = suc (length s) + sizeOf t
+
+-- ---- lines answered
 
 -- lines put to the desk in turn, the first of them line n
 unfoldable pub toldAll : ℕ → List (List ℕ) → Desk → Desk
@@ -39,15 +77,21 @@ unfoldable pub lastOf : ℕ → List (List ℕ) → ℕ
 lastOf n [] = n
 lastOf n (s ∷ t) = lastOf (next n) t
 
--- the desk after a block, the number of the last line, and the place at which the rest begins
+-- the desk after lines of a text, the number of the last line, the place at which the rest begins, and whether a line ends
+-- in the rest
 pub record Talked : Type 0 where
   pub desk : Desk
   pub last : ℕ
   pub rest : ℕ
+  pub more : Bool
 
-abbrev pub talked : Desk → ℕ → ℕ → Talked
-talked d n r = record { desk = d; last = n; rest = r }
+abbrev pub talked : Desk → ℕ → ℕ → Bool → Talked
+talked d n r b = record { desk = d; last = n; rest = r; more = b }
 
--- a block after line n
+-- these lines of a text, after line n
+abbrev pub linesTold : ℕ → List (List ℕ) → List ℕ → Desk → Talked
+linesTold n ls t d = talked (toldAll (next n) ls d) (lastOf n ls) (sizeOf ls) (endsLine (drop (sizeOf ls) t))
+
+-- a block after line n: the lines that are answered before the next write
 abbrev pub blockTold : ℕ → List ℕ → Desk → Talked
-blockTold n t d = talked (toldAll (next n) (endedLines t) d) (lastOf n (endedLines t)) (length t - length (unended t))
+blockTold n t d = linesTold n (together false (endedLines t)) t d

@@ -1,5 +1,6 @@
 // A line answered: bank, quad-words, memory and buffer are changed where they stand, and the answer is the place of the
 // buffer after what was printed.
+use crate::AfterLine;
 use lines::Frame;
 use lines::answers::put_ran;
 use lines::answers::put_refused;
@@ -13,8 +14,12 @@ ghost use Rattle.machine.specs.Status.{cpu};
 ghost use Rattle.run.specs.Run.{board, run as runOf};
 ghost use Rattle.lines.specs.Answers.{output, printed};
 ghost use Rattle.lines.specs.Stores.{storeOf};
-ghost use Rattle.conversation.specs.Conversation.{unlessDone, hasRun};
-ghost use Rattle.conversation.specs.Code.{deskOf, laid, toldOf};
+ghost use Rattle.conversation.specs.Conversation.{unlessDone, hasRun, answerOf};
+ghost use Rattle.conversation.specs.Code.{deskOf, laid};
+ghost use Rattle.conversation.specs.Blocks.{isLongRun, told, toldUnless};
+
+// The refusal of a line that is no frame.
+const BAD_LINE: u32 = 7;
 
 // The 82 line of a refusal; a line that was done prints nothing.
 fn put_unless_done(out: &mut [u8], at: usize, number: u32, refusal: u32) -> usize
@@ -75,9 +80,10 @@ fn tell_run(
     put_ran(out, at, e.steps, e.stop, e.code, r[5], r[6])
 }
 
-// One line.
-pub fn tell(
+// A line by its frame.
+fn tell_frame(
     line: &[u8],
+    frame: Frame,
     number: u32,
     m: &mut [u8],
     q: &mut [[u32; 4]; 16],
@@ -85,13 +91,54 @@ pub fn tell(
     out: &mut [u8],
     at: usize,
 ) -> usize
-    ensures { λ x. ⌜ deskOf (cpu (now (r .exit)) (now (q .exit))) (now (m .exit)) (now (out .exit)) x ≡ toldOf number (now (line .entry)) (deskOf (cpu (now (r .entry)) (now (q .entry))) (now (m .entry)) (now (out .entry)) at) ⌝ }
+    ensures { λ x. ⌜ deskOf (cpu (now (r .exit)) (now (q .exit))) (now (m .exit)) (now (out .exit)) x ≡ laid (answerOf number (now (line .entry)) (board (cpu (now (r .entry)) (now (q .entry))) (now (m .entry))) frame) (output (now (out .entry)) at) ⌝ }
 {
-    match parse(line) {
+    match frame {
         Frame::Set(place, value) => tell_set(r, place, value, number, out, at),
         Frame::Store(address) => tell_store(line, m, address, number, out, at),
         Frame::Run(budget, level) => tell_run(m, q, r, false, budget, level, out, at),
         Frame::Confined(budget, level) => tell_run(m, q, r, true, budget, level, out, at),
-        Frame::Bad => put_refused(out, at, 7, number),
+        Frame::Bad => put_refused(out, at, BAD_LINE, number),
+    }
+}
+
+// A run before which the answers that are there are written.
+const MANY_STEPS: u32 = 4096;
+
+fn is_long_run(frame: Frame) -> bool
+    ensures { λ r. ⌜ r ≡ isLongRun frame ⌝ }
+{
+    match frame {
+        Frame::Set(_, _) => false,
+        Frame::Store(_) => false,
+        Frame::Run(budget, _) => MANY_STEPS <= budget,
+        Frame::Confined(budget, _) => MANY_STEPS <= budget,
+        Frame::Bad => false,
+    }
+}
+
+// One line; a long run waits where others have begun.
+pub fn tell(
+    line: &[u8],
+    begun: bool,
+    number: u32,
+    m: &mut [u8],
+    q: &mut [[u32; 4]; 16],
+    r: &mut [u32; 17],
+    out: &mut [u8],
+    at: usize,
+) -> AfterLine
+    ensures { λ x. ⌜ told (deskOf (cpu (now (r .exit)) (now (q .exit))) (now (m .exit)) (now (out .exit)) (x .place)) (x .waits) ≡ toldUnless begun number (now (line .entry)) (deskOf (cpu (now (r .entry)) (now (q .entry))) (now (m .entry)) (now (out .entry)) at) ⌝ }
+{
+    let frame = parse(line);
+    if begun & is_long_run(frame) {
+        return AfterLine {
+            place: at,
+            waits: true,
+        };
+    }
+    AfterLine {
+        place: tell_frame(line, frame, number, m, q, r, out, at),
+        waits: false,
     }
 }

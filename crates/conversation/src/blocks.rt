@@ -56,7 +56,8 @@ fn newline(text: &[u8], from: usize) -> usize
     i
 }
 
-// The lines of a block after line `number`; their answers fill the buffer from its start.
+// The lines of a block after line `number`, up to a long run that is not the first of them; their answers fill the buffer
+// from its start.
 pub fn tell_block(
     text: &[u8],
     number: u32,
@@ -65,15 +66,27 @@ pub fn tell_block(
     r: &mut [u32; 17],
     out: &mut [u8],
 ) -> Talk
-    ensures { λ x. ⌜ talked (deskOf (cpu (now (r .exit)) (now (q .exit))) (now (m .exit)) (now (out .exit)) (x .place)) (x .last) (x .rest) ≡ blockTold number (now (text .entry)) (deskOf (cpu (now (r .entry)) (now (q .entry))) (now (m .entry)) (now (out .entry)) 0) ⌝ }
+    ensures { λ x. ⌜ talked (deskOf (cpu (now (r .exit)) (now (q .exit))) (now (m .exit)) (now (out .exit)) (x .place)) (x .last) (x .rest) (x .more) ≡ blockTold number (now (text .entry)) (deskOf (cpu (now (r .entry)) (now (q .entry))) (now (m .entry)) (now (out .entry)) 0) ⌝ }
 {
     let mut place = 0;
     let mut last = number;
     let mut from = 0;
+    let mut begun = false;
     let mut to = newline(text, 0);
     while to < text.len() {
-        last = std::num::wrapping_add_u32(last, 1);
-        place = tell(&text[from..to], last, m, q, r, out, place);
+        let next = std::num::wrapping_add_u32(last, 1);
+        let t = tell(&text[from..to], begun, next, m, q, r, out, place);
+        place = t.place;
+        if t.waits {
+            return Talk {
+                place: place,
+                last: last,
+                rest: from,
+                more: true,
+            };
+        }
+        last = next;
+        begun = true;
         from = to + 1;
         to = newline(text, from);
     }
@@ -81,5 +94,6 @@ pub fn tell_block(
         place: place,
         last: last,
         rest: from,
+        more: false,
     }
 }

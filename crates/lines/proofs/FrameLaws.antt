@@ -1,28 +1,43 @@
--- Frames: the ways out of parsing a line, and that a line cut past its longest frame stays bad.
+-- Frames: their numbers, the ways out of parsing a line, and that a line longer than the longest frame is bad.
 -- Assumes nothing.
-use mathlib.Core.Path.{_≡_, refl, sym, _∙_}
-use mathlib.Core.Bool.{Bool, true, false, _&&_}
+use mathlib.Core.Path.{_≡_, refl, sym, ap, _∙_}
+use mathlib.Core.Bool.{Bool, true, false, cond, _&&_}
 use mathlib.Core.List.{List}
 use Prim.Native.Nat.{ℕ, _%_, _≤_}
 use native.Mathlib.Omega.{arith}
-use lib.ListN.{length, take}
-use lib.Seq.{length-take-le}
+use lib.ListN.{length}
 use lib.Dec.{leb, eqb}
 use borrow.Author.Tests.{le-leb, lt-leb, eq-eqb, ne-eqb, leb-true}
 use Rattle.laws.proofs.Cases.{and-left}
 use Rattle.lines.specs.declared.Frame.{Frame}
 use Rattle.lines.specs.declared.Frame.the-variants.{Set, Store, Run, Confined, Bad}
 use Rattle.lines.specs.Digits.{allDigits, number}
-use Rattle.lines.specs.Lines.{isLength, ofTwelve, frameOf}
+use Rattle.lines.specs.Lines.{FrameNumbers, numbersOf, isLength, ofTwelve, frameOf}
 
--- ---- what a line cut to 75 bytes says: "74 digits at most"
+-- ---- "12 to 74 digits": 75 bytes are no frame
 
 pub too-long : (s : List ℕ) → 75 ≤ length s → Bad ≡ frameOf s
 unfolding frameOf
 too-long s h = rw (le-leb 12 (length s) (omega arith), lt-leb (length s) 74 (omega arith)) refl
 
-pub cut-line : (s : List ℕ) → 75 ≤ length s → frameOf (take 75 s) ≡ frameOf s
-cut-line s h = sym (too-long (take 75 s) (rw (length-take-le 75 s h) (omega arith))) ∙ too-long s h
+-- ---- a frame and its numbers
+
+frameBy : FrameNumbers → Frame
+frameBy n =
+    cond (eqb (n .kind) 1) (Set (n .first) (n .second))
+    (cond (eqb (n .kind) 2) (Store (n .first))
+    (cond (eqb (n .kind) 3) (Run (n .first) (n .second)) (cond (eqb (n .kind) 4) (Confined (n .first) (n .second)) Bad)))
+
+back : (f : Frame) → frameBy (numbersOf f) ≡ f
+unfolding frameBy
+back (Set a b) = refl
+back (Store a) = refl
+back (Run a b) = refl
+back (Confined a b) = refl
+back Bad = refl
+
+pub same-frame : (f g : Frame) → numbersOf f ≡ numbersOf g → f ≡ g
+same-frame f g e = sym (back f) ∙ ap frameBy e ∙ back g
 
 -- ---- kinds of twelve digits
 
@@ -50,20 +65,23 @@ module _ (s : List ℕ) (t : Bool) (e : t ≡ isLength (length s)) where
   unfolding frameOf
   bad-length h = rw (sym e ∙ h) refl
 
+  pub no-length : t ≡ false → numbersOf Bad ≡ numbersOf (frameOf s)
+  no-length h = ap numbersOf (bad-length h)
+
   module _ (h : t ≡ true) (u : Bool) (g : u ≡ allDigits s) where
-    pub bad-digit : u ≡ false → Bad ≡ frameOf s
+    pub no-digits : u ≡ false → numbersOf Bad ≡ numbersOf (frameOf s)
     unfolding frameOf
-    bad-digit f = rw (sym e ∙ h, sym g ∙ f) refl
+    no-digits f = rw (sym e ∙ h, sym g ∙ f) refl
 
     module _ (f : u ≡ true) (k : ℕ) (i : k ≡ number 2 s 0) where
-      pub is-store : (a : ℕ) → k ≡ 2 → a ≡ number 8 s 2 → Store a ≡ frameOf s
+      pub is-store : (a : ℕ) → k ≡ 2 → a ≡ number 8 s 2 → numbersOf (Store a) ≡ numbersOf (frameOf s)
       unfolding frameOf
       is-store a j l = rw (sym e ∙ h, sym g ∙ f, sym i, eq-eqb k 2 j, l) refl
 
-      pub is-twelve : (x : Frame) → (k ≡ 2 → ⊥) → length s ≡ 12 → x ≡ ofTwelve k s → x ≡ frameOf s
+      pub is-twelve : (x : Frame) → (k ≡ 2 → ⊥) → length s ≡ 12 → x ≡ ofTwelve k s → numbersOf x ≡ numbersOf (frameOf s)
       unfolding frameOf
-      is-twelve x j l o = rw (sym e ∙ h, sym g ∙ f, sym i, ne-eqb k 2 j, eq-eqb (length s) 12 l) o
+      is-twelve x j l o = rw (sym e ∙ h, sym g ∙ f, sym i, ne-eqb k 2 j, eq-eqb (length s) 12 l) (ap numbersOf o)
 
-      pub bad-kind : (k ≡ 2 → ⊥) → (length s ≡ 12 → ⊥) → Bad ≡ frameOf s
+      pub no-kind : (k ≡ 2 → ⊥) → (length s ≡ 12 → ⊥) → numbersOf Bad ≡ numbersOf (frameOf s)
       unfolding frameOf
-      bad-kind j l = rw (sym e ∙ h, sym g ∙ f, sym i, ne-eqb k 2 j, ne-eqb (length s) 12 l) refl
+      no-kind j l = rw (sym e ∙ h, sym g ∙ f, sym i, ne-eqb k 2 j, ne-eqb (length s) 12 l) refl

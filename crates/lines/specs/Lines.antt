@@ -13,6 +13,24 @@ use Rattle.lines.specs.Digits.{allDigits, number}
 abbrev pub badLine : ℕ
 badLine = 7
 
+-- "When an answer is an enum, the promises use a definition that gives this paper's number and values for each case": the
+-- kind of a frame with its numbers, or the refusal
+pub record FrameNumbers : Type 0 where
+  pub refusal : ℕ
+  pub kind : ℕ
+  pub first : ℕ
+  pub second : ℕ
+
+abbrev pub taken : ℕ → ℕ → ℕ → FrameNumbers
+taken kind first second = record { refusal = 0; kind = kind; first = first; second = second }
+
+abbrev pub numbersOf : Frame → FrameNumbers
+numbersOf (Set place word) = taken 1 place word
+numbersOf (Store address) = taken 2 address 0
+numbersOf (Run budget level) = taken 3 budget level
+numbersOf (Confined budget level) = taken 4 budget level
+numbersOf Bad = record { refusal = badLine; kind = 0; first = 0; second = 0 }
+
 -- a frame is 12 to 74 digits in even number
 abbrev pub isLength : ℕ → Bool
 isLength n = leb 12 n && leb n 74 && eqb (n % 2) 0

@@ -7,7 +7,7 @@ ghost use mathlib.Core.Path.{_≡_};
 ghost use mathlib.Core.Bool.{true};
 ghost use lib.ListN.{length};
 ghost use Rattle.lines.specs.Digits.{allDigits};
-ghost use Rattle.lines.specs.Lines.{isLength, ofTwelve, frameOf};
+ghost use Rattle.lines.specs.Lines.{isLength, ofTwelve, frameOf, numbersOf};
 
 fn is_length(n: usize) -> bool
     ensures { λ r. ⌜ r ≡ isLength n ⌝ }
@@ -33,7 +33,7 @@ fn of_twelve(kind: u8, line: &[u8]) -> Frame
 }
 
 pub fn parse(line: &[u8]) -> Frame
-    ensures { λ r. ⌜ r ≡ frameOf (now (line .entry)) ⌝ }
+    ensures { λ r. ⌜ numbersOf r ≡ numbersOf (frameOf (now (line .entry))) ⌝ }
 {
     let n = line.len();
     if is_length(n) {

@@ -2,5 +2,6 @@
 // families, one after the other: instructions and texts at kernel level, registers under a prefix, lines of every kind, user
 // level with tables, stack cache, events, random parcels; then on lines of every kind, the last one without a newline.
 fn main() {
-    serving::serve();
+    let mut memory = [0u8; 65536];
+    serving::serve(&mut memory);
 }

@@ -1,6 +1,6 @@
 -- Wrong answers of a board program, each at lines at which the definition answers otherwise.
 -- Assumes nothing.
-use Prim.Native.Nat.{ℕ}
+use Prim.Native.Nat.{ℕ, _+_}
 use mathlib.Core.Path.{_≡_, refl}
 use mathlib.Core.Bool.{Bool}
 use mathlib.Core.List.{List, [], _∷_, _++_}
@@ -8,33 +8,19 @@ use lib.ListN.{length, set, take}
 use lib.Dec.{T}
 use Rattle.machine.specs.Registers.{goodBank, setRegister}
 use Rattle.run.specs.Run.{advance, refusal, run}
-use Rattle.lines.specs.declared.Frame.{Frame}
-use Rattle.lines.specs.declared.Frame.the-variants.{Set, Store, Run, Confined, Bad}
 use Rattle.lines.specs.Digits.{digitOf, number, digit, digits}
-use Rattle.lines.specs.Lines.{frameOf}
+use Rattle.lines.specs.Lines.{numbersOf, frameOf}
 use Rattle.lines.specs.Stores.{storeOf}
 use Rattle.lines.specs.Answers.{newline, refusedLine, ranLine}
 use Rattle.conversation.specs.Conversation.{answerOf, conversation, linesOf, boardProgram}
+use Rattle.conversation.specs.Blocks.{newlineAt, endedLines, together, sizeOf, lastOf}
+use Rattle.conversation.specs.Stream.{turnLines, restOf}
 use Rattle.witnesses.specs.Boards.{is, all, page}
 
--- ---- frames: a kind's number, 7 for a bad line; the word of a frame
-
-abbrev pub kindIn : Frame → ℕ
-kindIn (Set p w) = 1
-kindIn (Store a) = 2
-kindIn (Run b l) = 3
-kindIn (Confined b l) = 4
-kindIn Bad = 7
-
-abbrev pub wordIn : Frame → ℕ
-wordIn (Set p w) = w
-wordIn (Store a) = a
-wordIn (Run b l) = b
-wordIn (Confined b l) = b
-wordIn Bad = 0
+-- ---- frames: a kind's number, or 7 for a bad line
 
 abbrev pub kindOf : List ℕ → ℕ
-kindOf s = kindIn (frameOf s)
+kindOf s = numbersOf (frameOf s) .kind + numbersOf (frameOf s) .refusal
 
 -- frame 02 with 32 bytes of 0xFF, at address 0
 abbrev pub longest : List ℕ
@@ -60,7 +46,7 @@ frames =
     ∷ is (kindOf (take 75 (longest ++ digits 6 0))) 7 2
     ∷ is (kindOf (take 74 (longest ++ digits 6 0))) 2 7
     -- a word read with its second byte in the place of the third
-    ∷ is (wordIn (frameOf (digits 12 0x0106_1234_5678))) 0x1234_5678 0x1234_3478
+    ∷ is (numbersOf (frameOf (digits 12 0x0106_1234_5678)) .second) 0x1234_5678 0x1234_3478
     -- frame 02 taken if its first byte is on the board: two bytes at 0xFFF
     ∷ is (storeOf (digits 14 0x02_0000_0FFF_0102) page 0xFFF .refusal) 8 0
     ∷ is (storeOf (digits 12 0x0200_000F_FF01) page 0xFFF .refusal) 0 8
@@ -97,6 +83,35 @@ conversations =
     ∷ is (length (boardProgram (digits 12 0x0300_0000_0007))) 31 0
     ∷ []
 
+-- ---- turns of the program's loop
+
+-- runs of budget 0, of 0x1000 steps and, confined, of 0xFFFFFFFF
+abbrev pub noStep : List ℕ
+noStep = line 0x0300_0000_0007
+
+abbrev pub manySteps : List ℕ
+manySteps = line 0x0300_0010_0007
+
+abbrev pub mostSteps : List ℕ
+mostSteps = line 0x04FF_FFFF_FF07
+
+unfoldable pub turns : List Bool
+turns =
+    -- answers held back by a long run
+    is (length (turnLines (noStep ++ noStep ++ manySteps))) 2 3
+    ∷ is (length (turnLines (noStep ++ mostSteps ++ noStep))) 1 3
+    -- a long run that waits though nothing has been answered
+    ∷ is (length (turnLines (manySteps ++ noStep))) 2 0
+    -- a line answered and kept, or neither answered nor kept
+    ∷ is (length (restOf (noStep ++ manySteps ++ noStep))) 26 39
+    ∷ is (length (restOf (noStep ++ manySteps ++ noStep))) 26 13
+    -- an unended line kept whole, or not at all
+    ∷ is (length (restOf (digits 80 0))) 75 80
+    ∷ is (length (restOf (noStep ++ digits 10 0))) 10 0
+    -- lines numbered from 1 in every turn
+    ∷ is (lastOf 5 (turnLines (noStep ++ noStep))) 7 2
+    ∷ []
+
 -- document 01, "Whole case"
 pub whole-case : boardProgram (line 0x0106_0000_0100 ++ line 0x0109_0000_1008 ++ line 0x0300_0000_0007)
     ≡ line 0x8202_0000_0002 ++ (digits 30 0x83_0000_0000_0000_0000_0100_0000_0000 ++ (newline ∷ []))
@@ -114,3 +129,7 @@ answers-checked = tt
 pub conversations-checked : T (all conversations)
 unfolding conversations frameOf digitOf digit setRegister answerOf conversation linesOf run refusal goodBank advance
 conversations-checked = tt
+
+pub turns-checked : T (all turns)
+unfolding turns frameOf digitOf digit newlineAt endedLines together sizeOf lastOf
+turns-checked = tt

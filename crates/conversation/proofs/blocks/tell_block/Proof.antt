@@ -1,4 +1,4 @@
-use Rattle.conversation.proofs.TurnLaws.{Talking, talking-none, talking-more, talking-over}
+use Rattle.conversation.proofs.TurnLaws.{Talking, talking-none, talking-long, talking-more, talking-over}
 use Rattle.conversation.specs.Code.{deskOf}
 use Rattle.machine.specs.Status.{cpu}
 use native.Mathlib.Omega.{arith}
@@ -10,10 +10,12 @@ use Rattle.conversation.proofs.blocks.tell_block.Statement.{statement}
 use Rattle.conversation.proofs.blocks.tell_block.Tie as tie
 
 abbrev Inv-loop : tie.InvT-loop
-Inv-loop text number m₀ q₀ r₀ out₀ place₀ last₀ from₀ to₀ m q r out place last from to = Talking text number (deskOf (cpu r₀ q₀) m₀ out₀ place₀) (deskOf (cpu r q) m out place) last from to × (length m ≡ length m₀) × (length out ≡ length out₀)
+Inv-loop text number m₀ q₀ r₀ out₀ place₀ last₀ from₀ begun₀ to₀ m q r out place last from begun to =
+    Talking text number (deskOf (cpu r₀ q₀) m₀ out₀ place₀) (deskOf (cpu r q) m out place) last from begun to × (length m ≡ length m₀) × (length out ≡ length out₀)
 
 abbrev μ-loop : tie.MeasureT-loop
-μ-loop text number m₀ q₀ r₀ out₀ place₀ last₀ from₀ to₀ m q r out place last from to = length text - from
+μ-loop text number m₀ q₀ r₀ out₀ place₀ last₀ from₀ begun₀ to₀ m q r out place last from begun to =
+    length text - from
 
 newline-requires : tie.Need-newline-requires Inv-loop μ-loop
 newline-requires c κs = search needs
@@ -36,18 +38,6 @@ part-tell-end c = search needs
 tell-requires : tie.Need-tell-requires Inv-loop μ-loop
 tell-requires c κs = search needs
 
-add-from : tie.Need-add-from Inv-loop μ-loop
-add-from c = search needs
-
-newline-requires-2 : tie.Need-newline-requires-2 Inv-loop μ-loop
-newline-requires-2 c κs = omega (arith, c .before .before .before .before .before .before .before .before .before .before .before .loop-test .taken)
-
-loop-less : tie.Need-loop-less Inv-loop μ-loop
-loop-less c = omega (arith, c .before .before .before .before .before .before .before .before .before .before .before .before .before .loop .inv .0 .upto, c .before .before .before .before .before .before .before .before .before .before .before .before .before .loop .inv .0 .ends, c .before .before .before .before .before .before .before .before .before .before .before .before .loop-test .taken)
-
-loop-again : tie.Need-loop-again Inv-loop μ-loop
-loop-again c = (talking-more _ _ _ _ _ _ _ (c .before .before .before .before .before .before .before .before .before .before .before .before .before .loop .inv .0) (c .before .before .before .before .before .before .before .before .before .before .before .before .loop-test .taken) _ _ _ (c .before .before .before .before .before .before .before .before .before .before .before .wrapping-add-u32 .ensures) (c .newline2 .ensures) (c .before .before .before .before .before .tell .ensures), search needs, search needs)
-
 same-length : tie.Need-same-length Inv-loop μ-loop
 same-length c = search needs
 
@@ -55,7 +45,30 @@ same-length-2 : tie.Need-same-length-2 Inv-loop μ-loop
 same-length-2 c = search needs
 
 returns : tie.Need-returns Inv-loop μ-loop
-returns c = search (needs, talking-over)
+returns c =
+    talking-long _ _ _ _ _ _ _ _ (c .before .before .before .before .before .before .before .before .before .before .before .before .before .loop .inv .0) (c .before .before .before .before .before .before .before .before .before .before .before .before .loop-test .taken) _ _ _ (c .before .before .before .before .before .tell .ensures) (c .if1 .taken)
+
+add-from : tie.Need-add-from Inv-loop μ-loop
+add-from c = search needs
+
+newline-requires-2 : tie.Need-newline-requires-2 Inv-loop μ-loop
+newline-requires-2 c κs = omega (arith, c .before .before .before .before .before .before .before .before .before .before .before .before .loop-test .taken)
+
+loop-less : tie.Need-loop-less Inv-loop μ-loop
+loop-less c = omega (arith, c .before .before .before .before .before .before .before .before .before .before .before .before .before .before .loop .inv .0 .upto, c .before .before .before .before .before .before .before .before .before .before .before .before .before .before .loop .inv .0 .ends, c .before .before .before .before .before .before .before .before .before .before .before .before .before .loop-test .taken)
+
+loop-again : tie.Need-loop-again Inv-loop μ-loop
+loop-again c =
+    (talking-more _ _ _ _ _ _ _ _ (c .before .before .before .before .before .before .before .before .before .before .before .before .before .before .loop .inv .0) (c .before .before .before .before .before .before .before .before .before .before .before .before .before .loop-test .taken) _ _ _ (c .before .before .before .before .before .before .tell .ensures) _ (c .before .if1 .left) (c .before .before .before .before .before .before .before .before .before .before .before .before .wrapping-add-u32 .ensures) (c .newline2 .ensures), search needs, search needs)
+
+same-length-3 : tie.Need-same-length-3 Inv-loop μ-loop
+same-length-3 c = search needs
+
+same-length-4 : tie.Need-same-length-4 Inv-loop μ-loop
+same-length-4 c = search needs
+
+returns-2 : tie.Need-returns-2 Inv-loop μ-loop
+returns-2 c = search (needs, talking-over)
 
 pub tell-block-spec : {M : Type 1} → statement M
 tell-block-spec =
@@ -70,10 +83,13 @@ tell-block-spec =
     part-tell-start
     part-tell-end
     tell-requires
+    same-length
+    same-length-2
+    returns
     add-from
     newline-requires-2
     loop-less
     loop-again
-    same-length
-    same-length-2
-    returns)
+    same-length-3
+    same-length-4
+    returns-2)

@@ -1,7 +1,7 @@
 use mathlib.Core.Path.{sym, _∙_}
 use lib.ListN.{length}
 use native.Mathlib.Omega.{arith}
-use Rattle.lines.proofs.FrameLaws.{least, bad-length, bad-digit, is-store, is-twelve, bad-kind}
+use Rattle.lines.proofs.FrameLaws.{least, no-length, no-digits, is-store, is-twelve, no-kind}
 use borrow.Author.Needs.{needs}
 use Rattle.lines.proofs.frames.parse.Statement.{statement}
 use Rattle.lines.proofs.frames.parse.Tie as tie
@@ -34,13 +34,13 @@ returns-2 : tie.Need-returns-2
 returns-2 c = search (needs, is-twelve)
 
 returns-3 : tie.Need-returns-3
-returns-3 c = search (needs, bad-kind)
+returns-3 c = search (needs, no-kind)
 
 returns-4 : tie.Need-returns-4
-returns-4 c = search (needs, bad-digit)
+returns-4 c = search (needs, no-digits)
 
 returns-5 : tie.Need-returns-5
-returns-5 c = search (needs, bad-length)
+returns-5 c = search (needs, no-length)
 
 pub parse-spec : {M : Type 1} → statement M
 parse-spec =

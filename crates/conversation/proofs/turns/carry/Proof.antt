@@ -1,8 +1,8 @@
 use Prim.Native.Nat.{_-_}
-use Rattle.serving.proofs.CarryLaws.{Carrying, carrying-none, carrying-more, carrying-cut, carrying-all}
+use Rattle.conversation.proofs.CarryLaws.{Carrying, carrying-none, carrying-more, carrying-cut, carrying-all}
 use borrow.Author.Needs.{needs}
-use Rattle.serving.proofs.blocks.carry.Statement.{statement}
-use Rattle.serving.proofs.blocks.carry.Tie as tie
+use Rattle.conversation.proofs.turns.carry.Statement.{statement}
+use Rattle.conversation.proofs.turns.carry.Tie as tie
 
 abbrev Inv-loop : tie.InvT-loop
 Inv-loop block₀ from end left k₀ block k = Carrying block₀ from left block k
@@ -20,7 +20,7 @@ same-length : tie.Need-same-length Inv-loop μ-loop
 same-length c = search needs
 
 returns : tie.Need-returns Inv-loop μ-loop
-returns c = (search needs, search needs, carrying-cut _ _ _ _ _ (c .before .before .loop .inv) (c .before .loop-test .taken) (c .if1 .taken))
+returns c = carrying-cut _ _ _ _ _ (c .before .before .loop .inv) (c .before .loop-test .taken) (c .if1 .taken)
 
 add-block : tie.Need-add-block Inv-loop μ-loop
 add-block c = search needs
@@ -44,7 +44,7 @@ same-length-2 : tie.Need-same-length-2 Inv-loop μ-loop
 same-length-2 c = search needs
 
 returns-2 : tie.Need-returns-2 Inv-loop μ-loop
-returns-2 c = (search needs, search needs, carrying-all _ _ _ _ _ (c .before .loop .inv) (c .loop-test .left))
+returns-2 c = carrying-all _ _ _ _ _ (c .before .loop .inv) (c .loop-test .left)
 
 pub carry-spec : {M : Type 1} → statement M
 carry-spec =

@@ -1,12 +1,12 @@
--- The rest of a block at its front: the bytes copied so far, and those still where they were.
+-- Part of a block at its front: the bytes copied so far, and those still where they were.
 -- Assumes nothing.
 use mathlib.Core.Path.{_≡_, refl, sym, ap, _∙_}
 use mathlib.Core.List.{List, [], _∷_, _++_}
 use Prim.Native.Nat.{ℕ, suc, _+_, _-_, _≤_, _<_}
-use native.Mathlib.Nat.{add-comm, min-le-left}
+use native.Mathlib.Nat.{add-comm}
 use native.Mathlib.Numerals.{add-one}
 use native.Mathlib.Omega.{arith}
-use lib.ListN.{length, getD, set, take, drop, length-set, length-drop, length-take}
+use lib.ListN.{length, getD, set, take, drop, length-set, length-drop}
 use lib.Seq.{take-suc, take-suc-set, drop-set-lt, drop-drop, getD-drop, take-take, take-all, length-take-le}
 
 pub record Carrying (s₀ : List ℕ) (from left : ℕ) (s : List ℕ) (k : ℕ) : Type 0 where
@@ -66,7 +66,3 @@ module _ (s₀ : List ℕ) (from left : ℕ) where
         r .front
         ∙ ap (λ (i : ℕ). take i (drop from s₀)) e
         ∙ sym (take-all 75 (take left (drop from s₀)) (rw (length-take-le left (drop from s₀) b) (omega (arith, r .few))))
-
--- a place within the first bytes of a block
-pub within-first : (e r : ℕ) (s : List ℕ) → r ≤ length (take (e - 0) s) → r ≤ e
-within-first e r s h = omega (arith, h, length-take (e - 0) s, min-le-left (e - 0) (length s))

@@ -1,0 +1,114 @@
+-- The part of a block that is not answered yet: where it lies, before a turn of the loop and after it.
+-- Assumes nothing.
+use mathlib.Core.Path.{_≡_, refl, sym, ap, _∙_}
+use mathlib.Core.Bool.{Bool, true, false, cond}
+use mathlib.Core.List.{List, [], _∷_}
+use Prim.Native.Nat.{ℕ, zero, suc, _+_, _-_, _%_, _^_, _≤_, _<_}
+use native.Mathlib.Omega.{arith}
+use lib.ListN.{length, take, drop, length-drop, drop-of-length-le}
+use lib.Seq.{take-all, take-nil, length-take-le, drop-drop}
+use lib.Dec.{ltb}
+use borrow.Author.Tests.{ltb-true, ltb-false}
+use Rattle.laws.proofs.Cases.{by-test}
+use Rattle.conversation.specs.Conversation.{next}
+use Rattle.conversation.specs.Code.{Desk, toldOf}
+use Rattle.conversation.specs.Blocks.{endsLine, endedLines, together, sizeOf, Told, told, toldUnless, toldAll, Talked, talked, blockTold}
+use Rattle.conversation.specs.Stream.{turnLines, keptOf, turned, turnOf, lastLine}
+use Rattle.conversation.proofs.LineLaws.{lines-within}
+
+drop-take : (f e : ℕ) (b : List ℕ) → f ≤ e → drop f (take e b) ≡ take (e - f) (drop f b)
+drop-take zero e b h = let k : e ≡ e - 0 = omega arith in ap (λ (i : ℕ). take i b) k
+drop-take (suc f) zero b h = absurd (omega arith)
+drop-take (suc f) (suc e) [] h = sym (take-nil (suc e - suc f))
+drop-take (suc f) (suc e) (x ∷ b) h =
+    let k : e - f ≡ suc e - suc f = omega arith in
+    drop-take f e b (omega arith) ∙ ap (λ (i : ℕ). take i (drop f b)) k
+
+-- the lesser of two numbers
+abbrev pub Least : ℕ → ℕ → ℕ → Type 0
+Least a b r = (r ≤ a) × (r ≤ b) × (r < a → r ≡ b)
+
+-- e and f are `end` and `from`, moved into the block
+module _ (b : List ℕ) (from end e f : ℕ) (le : Least end (length b) e) (lf : Least from e f) where
+  filled : take e b ≡ take end b
+  filled =
+      by-test (ltb e end)
+      (λ h. let g : e ≡ length b = le .2 (ltb-true e end h) in
+      take-all e b (omega arith) ∙ sym (take-all end b (omega (arith, le .0))))
+      (λ h. let g : e ≡ end = omega (arith, ltb-false e end h, le .0) in
+      ap (λ (k : ℕ). take k b) g)
+
+  clipped : drop f (take e b) ≡ drop from (take e b)
+  clipped =
+      by-test (ltb f from)
+      (λ h. let g : f ≡ e = lf .2 (ltb-true f from h) in
+      let n = length-take-le e b (le .1) in
+      drop-of-length-le (take e b) {i = f} (omega (arith, n, g)) ∙ sym (drop-of-length-le (take e b) {i = from} (omega (arith, n, lf .0, g))))
+      (λ h. let g : f ≡ from = omega (arith, ltb-false f from h, lf .0) in
+      ap (λ (k : ℕ). drop k (take e b)) g)
+
+  pub part : take (e - f) (drop f b) ≡ drop from (take end b)
+  part = sym (drop-take f e b (lf .1)) ∙ clipped ∙ ap (λ (t : List ℕ). drop from t) filled
+
+  pub part-length : length (take (e - f) (drop f b)) ≡ e - f
+  part-length = length-take-le (e - f) (drop f b) (rw (length-drop f b) (omega (arith, le .1)))
+
+  -- the place that a turn leaves is within the part
+  pub rest-within : (n l r : ℕ) (m : Bool) (d d₀ : Desk) → talked d l r m ≡ blockTold n (take (e - f) (drop f b)) d₀ → f + r ≤ e
+  rest-within n l r m d d₀ h =
+      omega (arith, ap (λ (x : Talked). x .rest) h, lines-within false (take (e - f) (drop f b)), part-length, lf .1)
+
+  -- what stands from there on
+  beyond : (r : ℕ) → drop (f + r) (take e b) ≡ drop r (take (e - f) (drop f b))
+  beyond r = sym (drop-drop r f (take e b)) ∙ ap (λ (t : List ℕ). drop r t) (drop-take f e b (lf .1))
+
+  module _ (n l r : ℕ) (m : Bool) (d d₀ : Desk) (h : talked d l r m ≡ blockTold n (take (e - f) (drop f b)) d₀) where
+    -- the answer of a turn with the bytes s kept
+    turn-is : (s : List ℕ) → s ≡ keptOf (drop r (take (e - f) (drop f b))) → turned d l s m ≡ turnOf n (drop from (take end b)) d₀
+    turn-is s g =
+        (λ i. turned (h i .desk) (h i .last)
+        ((g ∙ ap (λ (k : ℕ). keptOf (drop k (take (e - f) (drop f b)))) (ap (λ (x : Talked). x .rest) h)) i) (h i .more))
+        ∙ ap (λ (t : List ℕ). turnOf n t d₀) part
+
+    more-is : m ≡ endsLine (drop r (take (e - f) (drop f b)))
+    more-is =
+        ap (λ (x : Talked). x .more) h
+        ∙ ap (λ (k : ℕ). endsLine (drop k (take (e - f) (drop f b)))) (sym (ap (λ (x : Talked). x .rest) h))
+
+    pub turn-more : m ≡ true → turned d l (drop (f + r) (take e b)) true ≡ turnOf n (drop from (take end b)) d₀
+    turn-more g =
+        ap (λ (x : Bool). turned d l (drop (f + r) (take e b)) x) (sym g)
+        ∙ turn-is (drop (f + r) (take e b))
+        (beyond r ∙ ap (λ (x : Bool). cond x (drop r (take (e - f) (drop f b))) (take 75 (drop r (take (e - f) (drop f b))))) (sym g ∙ more-is))
+
+    pub turn-last : (k : ℕ) (c : List ℕ) → m ≡ false → take k c ≡ take 75 (take (e - (f + r)) (drop (f + r) b))
+        → turned d l (drop 0 (take k c)) false ≡ turnOf n (drop from (take end b)) d₀
+    turn-last k c g i =
+        let w = rest-within n l r m d d₀ h in
+        ap (λ (x : Bool). turned d l (take k c) x) (sym g)
+        ∙ turn-is (take k c)
+        (i
+        ∙ ap (λ (t : List ℕ). take 75 t) (sym (drop-take (f + r) e b w) ∙ beyond r)
+        ∙ ap (λ (x : Bool). cond x (drop r (take (e - f) (drop f b))) (take 75 (drop r (take (e - f) (drop f b))))) (sym g ∙ more-is))
+
+  -- ---- the end of input
+
+  pub none-left : (n : ℕ) (d : Desk) → f ≡ e → d ≡ toldAll (next n) (lastLine (drop from (take end b))) d
+  unfolding toldAll
+  none-left n d h =
+      let z : e - f ≡ 0 = omega arith in
+      let g : drop from (take end b) ≡ [] = sym part ∙ ap (λ (k : ℕ). take k (drop f b)) z in
+      rw g refl
+
+  pub one-left : (n k : ℕ) (d d₀ : Desk) (w : Bool) → (f ≡ e → ⊥) → k ≡ (n + 1) % 2 ^ 32
+      → told d w ≡ toldUnless false k (take (e - f) (drop f b)) d₀ → d ≡ toldAll (next n) (lastLine (drop from (take end b))) d₀
+  unfolding toldAll
+  one-left n k d d₀ w h i j =
+      ap (λ (x : Told). x .desk) j ∙ ap (λ (x : ℕ). toldOf x t d₀) i ∙ go t (omega (arith, part-length, lf .1, h)) ∙ ap (λ (s : List ℕ). toldAll (next n) (lastLine s) d₀) part
+    where
+      t : List ℕ
+      t = take (e - f) (drop f b)
+
+      go : (s : List ℕ) → 0 < length s → toldOf (next n) s d₀ ≡ toldAll (next n) (lastLine s) d₀
+      go [] p = absurd (omega arith)
+      go (x ∷ s) p = refl

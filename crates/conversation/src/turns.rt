@@ -1,0 +1,106 @@
+// A turn of the program's loop: between a read and a write.
+use crate::Stream;
+use crate::answers::tell;
+use crate::blocks::tell_block;
+ghost use mathlib.Core.Path.{_≡_};
+ghost use Prim.Native.Nat.{_-_, _<_, _≤_};
+ghost use lib.ListN.{length, take, drop};
+ghost use Rattle.machine.specs.Status.{cpu};
+ghost use Rattle.conversation.specs.Conversation.{next};
+ghost use Rattle.conversation.specs.Code.{deskOf};
+ghost use Rattle.conversation.specs.Blocks.{toldAll};
+ghost use Rattle.conversation.specs.Stream.{turned, turnOf, beginning, lastLine};
+
+// No frame is as long, so an unended line that is cut there stays bad.
+const MOST_KEPT: usize = 75;
+
+// Before the first read.
+pub fn begin() -> Stream
+    ensures { λ x. ⌜ x ≡ beginning ⌝ }
+{
+    Stream {
+        from: 0,
+        end: 0,
+        more: false,
+        last: 0,
+        place: 0,
+    }
+}
+
+fn least(a: usize, b: usize) -> usize
+    ensures { λ r. ⌜ (r ≤ a) × (r ≤ b) × (r < a → r ≡ b) ⌝ }
+{
+    if a < b { a } else { b }
+}
+
+// Part of a block to its front: how many bytes, at most as many as are kept.
+fn carry(block: &mut [u8], from: usize, end: usize) -> usize
+    requires { ⌜ (from ≤ end) × (end ≤ length (now block)) ⌝ }
+    ensures { λ r. ⌜ take r (now (block .exit)) ≡ take 75 (take (end - from) (drop from (now (block .entry)))) ⌝ }
+{
+    let left = end - from;
+    let mut k = 0;
+    while k < left {
+        if k == MOST_KEPT {
+            return k;
+        }
+        block[k] = block[from + k];
+        k = k + 1;
+    }
+    k
+}
+
+// The lines that are answered before the next write, where the block is filled up to `end`.
+pub fn converse(
+    s: Stream,
+    end: usize,
+    block: &mut [u8],
+    m: &mut [u8],
+    q: &mut [[u32; 4]; 16],
+    r: &mut [u32; 17],
+    out: &mut [u8],
+) -> Stream
+    ensures { λ x. ⌜ turned (deskOf (cpu (now (r .exit)) (now (q .exit))) (now (m .exit)) (now (out .exit)) (x .place)) (x .last) (drop (x .from) (take (x .end) (now (block .exit)))) (x .more) ≡ turnOf (s .last) (drop (s .from) (take end (now (block .entry)))) (deskOf (cpu (now (r .entry)) (now (q .entry))) (now (m .entry)) (now (out .entry)) 0) ⌝ }
+{
+    let e = least(end, block.len());
+    let f = least(s.from, e);
+    let t = tell_block(&block[f..e], s.last, m, q, r, out);
+    let from = f + t.rest;
+    if t.more {
+        return Stream {
+            from: from,
+            end: e,
+            more: true,
+            last: t.last,
+            place: t.place,
+        };
+    }
+    Stream {
+        from: 0,
+        end: carry(block, from, e),
+        more: false,
+        last: t.last,
+        place: t.place,
+    }
+}
+
+// At the end of input: the last line may have no newline. The place of the buffer after its answer.
+pub fn finish(
+    s: Stream,
+    block: &[u8],
+    m: &mut [u8],
+    q: &mut [[u32; 4]; 16],
+    r: &mut [u32; 17],
+    out: &mut [u8],
+) -> usize
+    ensures { λ x. ⌜ deskOf (cpu (now (r .exit)) (now (q .exit))) (now (m .exit)) (now (out .exit)) x ≡ toldAll (next (s .last)) (lastLine (drop (s .from) (take (s .end) (now (block .entry))))) (deskOf (cpu (now (r .entry)) (now (q .entry))) (now (m .entry)) (now (out .entry)) 0) ⌝ }
+{
+    let e = least(s.end, block.len());
+    let f = least(s.from, e);
+    if f == e {
+        return 0;
+    }
+    let number = std::num::wrapping_add_u32(s.last, 1);
+    let t = tell(&block[f..e], false, number, m, q, r, out, 0);
+    t.place
+}

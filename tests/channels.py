@@ -1,0 +1,112 @@
+#!/usr/bin/env python3
+"""channels.py [BOARD]: what the board does where its input comes in pieces or fails, and where its output is slow, full,
+closed or broken. BOARD is target/bin/board if none is named. Answers are those of document 01; a failure is one line on
+standard error, after which nothing is run. Prints a line for each case, and ends with status 1 if one is not as it must be.
+"""
+import fcntl, os, signal, socket, struct, subprocess, sys, threading, time
+
+here = os.path.dirname(os.path.abspath(__file__))
+board = sys.argv[1] if len(sys.argv) > 1 else os.path.join(here, '..', 'target', 'bin', 'board')
+SOON = 20   # seconds; a run of the largest budget takes minutes
+BAD = b'no frame\n'
+NOTHING = b'030000000007\n'                       # a run of budget 0
+NOTHING_DONE = b'830000000000000000000000000000\n'
+FOREVER = b'03FFFFFFFF07\n'
+failed = []
+
+
+def told(case, got, wanted):
+    print('%-58s %s' % (case, 'as it must be' if got == wanted else 'WRONG: %r, wanted %r' % (got, wanted)))
+    if got != wanted:
+        failed.append(case)
+
+
+def nonblocking(fd):
+    fcntl.fcntl(fd, fcntl.F_SETFL, fcntl.fcntl(fd, fcntl.F_GETFL) | os.O_NONBLOCK)
+
+
+def run(stdin, **more):
+    """What is written to standard output (if that is a pipe), to standard error, and the status; all soon."""
+    p = subprocess.Popen([board], stdin=subprocess.PIPE, stderr=subprocess.PIPE, **more)
+    try:
+        out, err = p.communicate(stdin, SOON)
+    except subprocess.TimeoutExpired:
+        p.kill()
+        return 'still running'
+    return out, err, p.returncode
+
+
+def refused(first, last):
+    return b''.join(b'8207%08X\n' % n for n in range(first, last + 1))
+
+
+# a full device: the run after the refused line is not begun
+with open('/dev/full', 'wb') as full:
+    told('a full device', run(BAD + FOREVER, stdout=full), (None, b'standard output: No space left on device\n', 0))
+
+told('a closed output', run(BAD + FOREVER, preexec_fn=lambda: os.close(1)), (None, b'standard output: Bad file descriptor\n', 0))
+
+# nobody reads: the signal ends the process, or, where that is ignored, the failure does
+for ignored, wanted in ((False, (None, b'', -signal.SIGPIPE)), (True, (None, b'standard output: Broken pipe\n', 0))):
+    reader, writer = os.pipe()
+    os.close(reader)
+    told('a killed reader, its signal %s' % ('ignored' if ignored else 'not ignored'),
+         run(BAD + FOREVER, stdout=writer, restore_signals=not ignored), wanted)
+    os.close(writer)
+
+# an output that would have to wait: every answer comes, in order
+LINES = 20000
+reader, writer = os.pipe()
+fcntl.fcntl(writer, 1031, 4096)   # F_SETPIPE_SZ
+nonblocking(writer)
+p = subprocess.Popen([board], stdin=subprocess.PIPE, stdout=writer)
+os.close(writer)
+threading.Thread(target=lambda: (p.stdin.write(BAD * LINES), p.stdin.close()), daemon=True).start()
+time.sleep(0.3)
+came = b''
+while True:
+    piece = os.read(reader, 1500)
+    if not piece:
+        break
+    came += piece
+    if len(came) < 30000:
+        time.sleep(0.01)
+told('a slow reader of an output that does not wait', came, refused(1, LINES))
+p.wait()
+
+# an input that does not wait, in pieces: a line cut anywhere is answered once it is whole
+reader, writer = os.pipe()
+nonblocking(reader)
+p = subprocess.Popen([board], stdin=reader, stdout=subprocess.PIPE, stderr=subprocess.PIPE)
+os.close(reader)
+for piece in (NOTHING[:10], NOTHING[10:] + BAD[:3], BAD[3:], NOTHING[:-1]):
+    time.sleep(0.2)
+    os.write(writer, piece)
+os.close(writer)
+told('an input that does not wait, in pieces', p.communicate(timeout=SOON), (NOTHING_DONE + refused(2, 2) + NOTHING_DONE, b''))
+
+# an input that fails: the line that it cut is not answered
+server = socket.create_server(('127.0.0.1', 0))
+sender = socket.create_connection(server.getsockname())
+taker, _ = server.accept()
+p = subprocess.Popen([board], stdin=taker, stdout=subprocess.PIPE, stderr=subprocess.PIPE)
+taker.close()
+sender.sendall(BAD + NOTHING[:10])
+first = p.stdout.read(13)
+sender.setsockopt(socket.SOL_SOCKET, socket.SO_LINGER, struct.pack('ii', 1, 0))
+sender.close()
+out, err = p.communicate(timeout=SOON)
+told('an input that fails', (first + out, err), (refused(1, 1), b'standard input: Connection reset by peer\n'))
+
+# answers that are there are written before a long run begins
+p = subprocess.Popen([board], stdin=subprocess.PIPE, stdout=subprocess.PIPE)
+p.stdin.write(NOTHING + BAD + FOREVER)
+p.stdin.flush()
+want = NOTHING_DONE + refused(2, 2)
+alarm = threading.Timer(SOON, p.kill)
+alarm.start()
+told('answers before a long run', p.stdout.read(len(want)), want)
+alarm.cancel()
+p.kill()
+
+sys.exit(1 if failed else 0)
