@@ -3,16 +3,17 @@
  * Nothing is kept between calls: the caller lends the memory and two blocks of words, which hold the whole machine.
  *   registers  17 words: the thirteen registers in the order of Table 1-1 (CONFIG, FAULT, ID, ISP, MSP, PC, PSW, SHAD, SP,
  *              STB, TIMER1, TIMER2, VB), then what is due: trace, Timer1, Timer2, and whether interrupt input 0 was taken and
- *              no look has found another level since; each of these four counts if it is 1, and any call
- *              that writes the registers, a refused one too, writes another word there as 0
+ *              no look has found another level since. Each of these four counts if it is 1; another word counts as 0 and
+ *              stays until a step writes there
  *   cache      64 words: the sixteen quad-words of the stack cache
- * No call has a precondition but these sizes. A call that refuses answers the refusal's number:
+ * No call has a precondition but these sizes, and that what is lent is there: no pointer is null or unaligned, and blocks
+ * of one call do not overlap. A call that refuses answers the refusal's number and changes no word and no byte:
  *   1  memory is not 1 to 4,096 pages of 4,096 bytes
  *   2  no such register, a reserved bit set, or MSP not in SP to SP + 256
  *   3  interrupt level above 7
- *   4  the next step would leave MSP outside SP to SP + 256
+ *   4  the next step would leave MSP outside SP to SP + 256 (a run's finished steps stay)
  *   5  no encoding of the named length carries the instruction, or the eight words name none
- *   6  fewer parcels than the first one, or the one after a prefix, calls for
+ *   6  no parcel, or fewer than the first one, or the one after a prefix, calls for
  *   8  bytes that reach past the end of memory
  *   9  a confined run without user level and virtual addressing
  */
@@ -22,6 +23,12 @@
 #include <stdbool.h>
 #include <stddef.h>
 #include <stdint.h>
+
+/* The number of this interface; hobbit_interface answers the library's own, so that a caller can compare the two. It grows
+ * with each change after which a caller may have to change. */
+enum { HOBBIT_INTERFACE = 1 };
+
+uint32_t hobbit_interface(void);
 
 /* Steps done; stop 0 budget spent, 1 refused, 2 event due; code 0, the refusal's number, or the event: 0x01 to 0x0B the
  * exception, 0x10 to 0x16 interrupt level 0 to 6, 0x17 and 0x18 timers, 0x20 KCALL, 0x21 unimplemented. */
@@ -34,8 +41,8 @@ typedef struct {
 /* The machine at the start: ID 0x0000003B, every other word 0. */
 void hobbit_start(uint32_t registers[17], uint32_t cache[64]);
 
-/* The register at its place in Table 1-1 (1 CONFIG to 13 VB) set to a word; SP sets MSP, ID takes no word.
- * 0, or 2 and the registers as they were. */
+/* The register at its place in Table 1-1 (1 CONFIG to 13 VB) set to a word; SP sets MSP too, ID takes no word. No other word
+ * changes. 0, or 2 and the registers as they were. */
 uint32_t hobbit_set(uint32_t registers[17], uint32_t place, uint32_t value);
 
 /* A register's word, with refusal 0; or refusal 2 and 0. */
@@ -54,7 +61,7 @@ uint32_t hobbit_load(const uint8_t *memory, size_t bytes, uint32_t address, uint
 uint32_t hobbit_step(uint8_t *memory, size_t bytes, uint32_t registers[17], uint32_t cache[64], uint32_t level);
 
 /* Steps up to a budget: taking events, or confined, which stops before the first event sequence. Refusals 1, 2, 3 and 9
- * come before the first step, 4 after the finished ones. */
+ * come before the first step, 4 after the finished ones. A budget of 0 does nothing. */
 HobbitAnswer hobbit_run(uint8_t *memory, size_t bytes, uint32_t registers[17], uint32_t cache[64], bool confined,
                         uint32_t budget, uint32_t level);
 
@@ -131,7 +138,9 @@ enum {
  * of an unimplemented instruction and of a trapped niladic. */
 enum { HOBBIT_ILLEGAL = 0x103, HOBBIT_TRAPPED = 0x108, HOBBIT_UNIMPLEMENTED = 0x10C };
 
-/* The instruction that count parcels begin with: 0 and its words; or 6, HOBBIT_ILLEGAL, HOBBIT_TRAPPED or
+/* Parcels are numbers of 16 bits, not bytes of memory: there a parcel is two bytes, the most significant first.
+ *
+ * The instruction that count parcels begin with: 0 and its words; or 6, HOBBIT_ILLEGAL, HOBBIT_TRAPPED or
  * HOBBIT_UNIMPLEMENTED, and the words as they were. Parcels after the instruction do not count. */
 uint32_t hobbit_decode(const uint16_t *parcels, size_t count, uint32_t instruction[8]);
 

@@ -2,31 +2,41 @@
 -- Assumes nothing.
 use Prim.Native.Nat.{ℕ}
 use mathlib.Core.Path.{_≡_, ap, _∙_}
-use mathlib.Core.Bool.{Bool}
+use mathlib.Core.Bool.{Bool, false}
 use mathlib.Core.List.{List}
+use lib.ListN.{length}
 use Rattle.memory.specs.Bytes.{Memory}
-use Rattle.machine.specs.declared.Machine.{Machine}
 use Rattle.machine.specs.Registers.{Bank}
-use Rattle.machine.specs.Cache.{quadsOf}
+use Rattle.machine.specs.Cache.{Cache, quadsOf, flatOf}
 use Rattle.machine.specs.Status.{cpu}
-use Rattle.machine.specs.Record.{bankOf, cpuOf, machineOf}
-use Rattle.run.specs.Run.{board, ended, run}
-use Rattle.runs.specs.Code.{advanced, advancedBy, oneStep}
-use Rattle.hobbit.specs.Blocks.{bankIn, machineIn, boardIn}
+use Rattle.machine.proofs.Flat.{flat-quads}
+use Rattle.run.specs.Run.{board, Ended, run}
+use Rattle.run.specs.declared.Stopped.{Stopped}
+use Rattle.run.specs.Stopping.{stoppedAt}
+use Rattle.runs.specs.Code.{advanced, oneStep}
+use Rattle.hobbit.specs.declared.HobbitAnswer.{HobbitAnswer}
+use Rattle.hobbit.specs.Blocks.{boardIn, blocks, blocksOf, returned, endedIn, stepped, advancedIn}
 
--- r and c are the blocks at the call, g the machine read from them; d is the bank written back
-module _ (r c : List ℕ) (m : Memory) (g : Machine) (eg : g ≡ machineIn r c) (left : Machine) (d : Bank) (ed : d ≡ bankOf left) (l : Memory) where
-  pub run-lent : (confined : Bool) (budget level n s k : ℕ) → ended n s k (board (cpuOf left) l) ≡ run confined budget level (board (cpuOf g) m)
-      → ended n s k (boardIn d (left .cache) l) ≡ run confined budget level (board (cpuOf (machineIn r c)) m)
-  run-lent confined budget level n s k e =
-      ap (λ (b : Bank). ended n s k (board (cpu b (quadsOf (left .cache))) l)) ed ∙ e ∙ ap (λ (x : Machine). run confined budget level (board (cpuOf x) m)) eg
+-- r and c are the blocks at the call, q the quad-words read from c and p those that the run left, d the bank and l the
+-- memory that it left, f what is written back
+module _ (r c : List ℕ) (m : Memory) (q : Cache) (eq : q ≡ quadsOf c) (d : Bank) (p : Cache) (l : Memory) (f : List ℕ) (ef : f ≡ flatOf p) (x : Stopped) where
+  returns-run : (confined : Bool) (budget level : ℕ) → stoppedAt x (board (cpu d p) l) ≡ run confined budget level (board (cpu r q) m)
+      → stoppedAt x (board (cpu d p) l) ≡ run confined budget level (boardIn r c m)
+  returns-run confined budget level e = e ∙ ap (λ (k : Cache). run confined budget level (board (cpu r k) m)) eq
 
-  pub step-lent : (level k : ℕ) → advancedBy k left l ≡ oneStep level (board (cpuOf g) m)
-      → advanced k (boardIn d (left .cache) l) ≡ oneStep level (board (cpuOf (machineIn r c)) m)
-  step-lent level k e =
-      ap (λ (b : Bank). advanced k (board (cpu b (quadsOf (left .cache))) l)) ed ∙ e ∙ ap (λ (x : Machine). oneStep level (board (cpuOf x) m)) eg
+  pub run-returned : (confined : Bool) (budget level : ℕ) (a : HobbitAnswer) → a .steps ≡ x .steps → a .stop ≡ x .stop → a .code ≡ x .code
+      → stoppedAt x (board (cpu d p) l) ≡ run confined budget level (board (cpu r q) m)
+      → returned a (blocks d f l) ≡ endedIn (run confined budget level (boardIn r c m))
+  run-returned confined budget level a g h i e =
+      (λ j. record { steps = g j; stop = h j; code = i j; left = blocks d (ef j) l })
+      ∙ ap (λ (y : Ended). endedIn y) (returns-run confined budget level e)
 
--- the bank of the machine in two blocks is that of the first
-pub bank-lent : (r c : List ℕ) (g : Machine) (d : Bank) → g ≡ machineIn r c → d ≡ bankOf g → d ≡ bankIn r
-unfolding machineOf
-bank-lent r c g d eg ed = ed ∙ ap (λ (x : Machine). bankOf x) eg
+  pub step-returned : (level : ℕ) → stoppedAt x (board (cpu d p) l) ≡ run false 1 level (board (cpu r q) m)
+      → stepped (x .code) (blocks d f l) ≡ advancedIn (oneStep level (boardIn r c m))
+  step-returned level e =
+      (λ j. stepped (x .code) (blocks d (ef j) l))
+      ∙ ap (λ (y : Ended). advancedIn (advanced (y .code) (y .left))) (returns-run false 1 level e)
+
+-- "a refused request changes nothing": the blocks of a board that was not changed are the caller's
+pub blocks-kept : (r c : List ℕ) (m : Memory) → length c ≡ 64 → blocksOf (boardIn r c m) ≡ blocks r c m
+blocks-kept r c m h = ap (λ (f : List ℕ). blocks r f m) (flat-quads c h)

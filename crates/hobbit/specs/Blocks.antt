@@ -3,25 +3,53 @@
 use Prim.Native.Nat.{ℕ}
 use mathlib.Core.List.{List}
 use Rattle.machine.specs.Registers.{Bank}
-use Rattle.machine.specs.Cache.{quadsOf}
+use Rattle.machine.specs.Cache.{quadsOf, flatOf}
 use Rattle.machine.specs.Status.{cpu}
-use Rattle.machine.specs.declared.Machine.{Machine}
-use Rattle.machine.specs.Record.{bankOf, machineOf, zeroCache}
 use Rattle.memory.specs.Bytes.{Memory}
-use Rattle.run.specs.Run.{Board, board, Ended, ended}
+use Rattle.run.specs.Run.{Board, board, Ended}
+use Rattle.runs.specs.Code.{Advanced}
 use Rattle.hobbit.specs.declared.HobbitAnswer.{HobbitAnswer}
 
--- the machine in two blocks: a word of what is due counts if it is 1
-abbrev pub machineIn : List ℕ → List ℕ → Machine
-machineIn r c = machineOf r (quadsOf c)
+-- the number of this interface, HOBBIT_INTERFACE of the header
+abbrev pub interface : ℕ
+interface = 1
 
--- the bank in the first of them
-abbrev pub bankIn : List ℕ → Bank
-bankIn r = bankOf (machineOf r zeroCache)
-
--- the board of two blocks and a memory, as a call left them
+-- the board that two blocks and a memory hold
 abbrev pub boardIn : List ℕ → List ℕ → Memory → Board
 boardIn r c m = board (cpu r (quadsOf c)) m
 
-abbrev pub answeredBy : HobbitAnswer → Board → Ended
-answeredBy x s = ended (x .steps) (x .stop) (x .code) s
+-- the blocks that hold a board
+pub record Blocks : Type 0 where
+  pub registers : Bank
+  pub cache : List ℕ
+  pub memory : Memory
+
+abbrev pub blocks : Bank → List ℕ → Memory → Blocks
+blocks r c m = record { registers = r; cache = c; memory = m }
+
+abbrev pub blocksOf : Board → Blocks
+blocksOf s = blocks (s .cpu .bank) (flatOf (s .cpu .cache)) (s .memory)
+
+-- a run's answer, with the blocks that it left
+pub record Returned : Type 0 where
+  pub steps : ℕ
+  pub stop : ℕ
+  pub code : ℕ
+  pub left : Blocks
+
+abbrev pub returned : HobbitAnswer → Blocks → Returned
+returned x b = record { steps = x .steps; stop = x .stop; code = x .code; left = b }
+
+abbrev pub endedIn : Ended → Returned
+endedIn e = record { steps = e .steps; stop = e .stop; code = e .code; left = blocksOf (e .left) }
+
+-- a step's: 0 or the refusal
+pub record Stepped : Type 0 where
+  pub refusal : ℕ
+  pub left : Blocks
+
+abbrev pub stepped : ℕ → Blocks → Stepped
+stepped r b = record { refusal = r; left = b }
+
+abbrev pub advancedIn : Advanced → Stepped
+advancedIn a = stepped (a .refusal) (blocksOf (a .left))

@@ -3,23 +3,30 @@
 pub mod bytes;
 pub mod texts;
 
-use machine::Machine;
 use machine::assign::read_register;
 use machine::assign::set_register;
+use machine::cache::flat;
 use machine::cache::quads;
-use machine::record::bank;
-use machine::record::machine_of;
 use machine::record::start_bank;
-use runs::running::run;
-use runs::running::step;
+use runs::running::run_lent;
 ghost use mathlib.Core.Path.{_≡_};
 ghost use Rattle.machine.specs.Registers.{startBank, setting, setRegister};
 ghost use Rattle.machine.specs.Cache.{quadsOf};
 ghost use Rattle.machine.specs.Status.{cpu};
-ghost use Rattle.machine.specs.Record.{cpuOf, zeroCache, reading, readingOf};
-ghost use Rattle.run.specs.Run.{board, run as runOf};
-ghost use Rattle.runs.specs.Code.{advanced, oneStep};
-ghost use Rattle.hobbit.specs.Blocks.{bankIn, machineIn, boardIn, answeredBy};
+ghost use Rattle.machine.specs.Record.{zeroCache, reading, readingOf};
+ghost use Rattle.run.specs.Run.{run as runOf};
+ghost use Rattle.runs.specs.Code.{oneStep};
+ghost use Rattle.hobbit.specs.Blocks.{interface, boardIn, blocks, returned, endedIn, stepped, advancedIn};
+
+const INTERFACE: u32 = 1;
+
+// The number of this interface: the header's HOBBIT_INTERFACE.
+#[no_mangle]
+pub extern "C" fn hobbit_interface() -> u32
+    ensures { λ x. ⌜ x ≡ interface ⌝ }
+{
+    INTERFACE
+}
 
 // What an 83 line carries but PC and PSW, which are words of the registers.
 #[repr(C)]
@@ -27,14 +34,6 @@ pub struct HobbitAnswer {
     pub steps: u32,
     pub stop: u32,
     pub code: u32,
-}
-
-// The machine in two blocks.
-fn machine_in(registers: &[u32; 17], cache: &[u32; 64]) -> Machine
-    ensures { λ x. ⌜ x ≡ machineIn (now (registers .entry)) (now (cache .entry)) ⌝ }
-{
-    let q = quads(*cache);
-    machine_of(registers, &q)
 }
 
 // A run: kind 03, or confined, kind 04.
@@ -47,14 +46,11 @@ pub extern "C" fn hobbit_run(
     budget: u32,
     level: u32,
 ) -> HobbitAnswer
-    ensures { λ x. ⌜ answeredBy x (boardIn (now (registers .exit)) (now (cache .exit)) (now (memory .exit))) ≡ runOf confined budget level (board (cpuOf (machineIn (now (registers .entry)) (now (cache .entry)))) (now (memory .entry))) ⌝ }
+    ensures { λ x. ⌜ returned x (blocks (now (registers .exit)) (now (cache .exit)) (now (memory .exit))) ≡ endedIn (runOf confined budget level (boardIn (now (registers .entry)) (now (cache .entry)) (now (memory .entry)))) ⌝ }
 {
-    let begun = machine_in(registers, cache);
-    let x = run(memory, begun, confined, budget, level);
-    let left = x.machine;
-    let words = left.cache;
-    *registers = bank(left);
-    *cache = words;
+    let mut q = quads(*cache);
+    let x = run_lent(memory, &mut q, registers, confined, budget, level);
+    *cache = flat(&q);
     HobbitAnswer {
         steps: x.steps,
         stop: x.stop,
@@ -70,15 +66,12 @@ pub extern "C" fn hobbit_step(
     cache: &mut [u32; 64],
     level: u32,
 ) -> u32
-    ensures { λ x. ⌜ advanced x (boardIn (now (registers .exit)) (now (cache .exit)) (now (memory .exit))) ≡ oneStep level (board (cpuOf (machineIn (now (registers .entry)) (now (cache .entry)))) (now (memory .entry))) ⌝ }
+    ensures { λ x. ⌜ stepped x (blocks (now (registers .exit)) (now (cache .exit)) (now (memory .exit))) ≡ advancedIn (oneStep level (boardIn (now (registers .entry)) (now (cache .entry)) (now (memory .entry)))) ⌝ }
 {
-    let begun = machine_in(registers, cache);
-    let x = step(begun, memory, level);
-    let left = x.machine;
-    let words = left.cache;
-    *registers = bank(left);
-    *cache = words;
-    x.refusal
+    let mut q = quads(*cache);
+    let x = run_lent(memory, &mut q, registers, false, 1, level);
+    *cache = flat(&q);
+    x.code
 }
 
 // The blocks at the start: ID 0x0000003B, every other word 0.
@@ -93,10 +86,8 @@ pub extern "C" fn hobbit_start(registers: &mut [u32; 17], cache: &mut [u32; 64])
 // The register at a place of Table 1-1 set to a word: 0, or refusal 2 and the registers as they were.
 #[no_mangle]
 pub extern "C" fn hobbit_set(registers: &mut [u32; 17], place: u32, value: u32) -> u32
-    ensures { λ x. ⌜ setting x (now (registers .exit)) ≡ setRegister (bankIn (now (registers .entry))) place value ⌝ }
+    ensures { λ x. ⌜ setting x (now (registers .exit)) ≡ setRegister (now (registers .entry)) place value ⌝ }
 {
-    let zeros = [0u32; 64];
-    *registers = bank(machine_in(registers, &zeros));
     set_register(registers, place, value)
 }
 

@@ -142,7 +142,6 @@ impl Machine {
 
     /// Frame 01: 0, or 2 with the registers as they were.
     pub fn set(&mut self, place: u32, value: u32) -> u32 {
-        self.settle_dues();
         if !(1..=13).contains(&place) {
             return 2;
         }
@@ -203,13 +202,6 @@ impl Machine {
         0
     }
 
-    /// A word of what is due counts if it is 1; the library writes the others as 0, a refused call too.
-    fn settle_dues(&mut self) {
-        for due in &mut self.registers[TRACE_DUE..] {
-            *due = (*due == 1) as u32;
-        }
-    }
-
     /// One step with events taken: 0, or the refusal with all as it was.
     pub fn step(&mut self, level: u32) -> u32 {
         let answer = self.run(false, 1, level);
@@ -221,7 +213,6 @@ impl Machine {
     }
 
     pub fn run(&mut self, confined: bool, budget: u32, level: u32) -> Answer {
-        self.settle_dues();
         let refusal = self.refusal(confined, level);
         if refusal != 0 {
             self.tally.refusals[refusal as usize] += 1;

@@ -1,23 +1,26 @@
-use Rattle.hobbit.proofs.Laws.{run-lent}
+use mathlib.Core.Path.{refl}
+use Rattle.hobbit.proofs.Laws.{run-returned}
 use borrow.Author.Needs.{needs}
 use Rattle.hobbit.proofs.hobbit_run.Statement.{statement}
 use Rattle.hobbit.proofs.hobbit_run.Tie as tie
 
-machine-in-requires : tie.Need-machine-in-requires
-machine-in-requires c κs = search needs
+quads-requires : tie.Need-quads-requires
+quads-requires c κs = search needs
 
-run-requires : tie.Need-run-requires
-run-requires c κs = search needs
+run-lent-requires : tie.Need-run-lent-requires
+run-lent-requires c κs = search needs
 
-bank-requires : tie.Need-bank-requires
-bank-requires c κs = search needs
+flat-requires : tie.Need-flat-requires
+flat-requires c κs = search needs
 
 same-length : tie.Need-same-length
-same-length c = c .before .before .before .before .before .run .kept .0
+same-length c = search needs
 
 returns : tie.Need-returns
-returns c = run-lent (c .before .before .before .before .before .before .before .before .before .before .before .args .registers .now) (c .before .before .before .before .before .before .before .before .before .before .before .args .cache .now) (c .before .before .before .before .before .before .before .before .before .before .before .args .memory .now) _ (c .before .before .before .before .before .before .before .machine-in .ensures) (c .before .before .before .before .before .run .result .machine) _ (c .bank .ensures .0) _ (c .before .before .before .before .before .before .before .before .before .before .before .args .confined) (c .before .before .before .before .before .before .before .before .before .before .before .args .budget) (c .before .before .before .before .before .before .before .before .before .before .before .args .level) _ _ _ (c .before .before .before .before .before .run .ensures)
+returns c =
+    let s = c .before .before .before .before .before .before .before .before .before .before .before .args in
+    run-returned (s .registers .now) (s .cache .now) (s .memory .now) _ (c .before .before .before .before .before .before .before .before .quads .ensures) _ _ _ _ (c .flat .ensures) (c .before .before .before .before .run-lent .result) (s .confined) (s .budget) (s .level) _ refl refl refl (c .before .before .before .before .run-lent .ensures)
 
 pub hobbit-run-spec : {M : Type 1} → statement M
 hobbit-run-spec =
-    tie.close (tie.spec machine-in-requires run-requires bank-requires same-length returns)
+    tie.close (tie.spec quads-requires run-lent-requires flat-requires same-length returns)
