@@ -7,4 +7,3 @@ mod Turns
 pub mod Runs
 pub mod Courses
 pub mod Unconfined
-pub mod Confined

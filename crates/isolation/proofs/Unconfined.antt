@@ -156,6 +156,28 @@ run-same budget level s h = go (refusal true level s) refl h
     go zero e h = rw (refusal-kind level s e) (advance-same level 0 budget s h)
     go (suc r) e h = absurd (omega arith)
 
+-- and its code is 0
+advance-code : (level n budget : ℕ) (s : Board) → advance (confinedTurn level) n budget s .stop ≡ budgetSpent
+    → advance (confinedTurn level) n budget s .code ≡ 0
+unfolding advance
+advance-code level n zero s h = refl
+advance-code level n (suc budget) s h = go (λ u. advance-code level (suc n) budget u) (confinedTurn level s) (turn-stops level s) h
+  where
+    go : ((u : Board) → advance (confinedTurn level) (suc n) budget u .stop ≡ budgetSpent → advance (confinedTurn level) (suc n) budget u .code ≡ 0)
+        → (x : Turn) → Stops x → going n (λ u. advance (confinedTurn level) (suc n) budget u) x .stop ≡ budgetSpent
+        → going n (λ u. advance (confinedTurn level) (suc n) budget u) x .code ≡ 0
+    go f (goes u) p h = f u h
+    go f (ends reason code u) p h = absurd (omega arith)
+
+pub run-code : (budget level : ℕ) (s : Board) → run true budget level s .stop ≡ budgetSpent → run true budget level s .code ≡ 0
+unfolding run
+run-code budget level s h = go (refusal true level s) h
+  where
+    go : (r : ℕ) → unlessRefused r (advance (confinedTurn level) 0 budget s) s .stop ≡ budgetSpent
+        → unlessRefused r (advance (confinedTurn level) 0 budget s) s .code ≡ 0
+    go zero h = advance-code level 0 budget s h
+    go (suc r) h = absurd (omega arith)
+
 -- so the board after each step of a confined run is what kind 03 leaves after as many
 pub course-unconfined : (o : Order) (k : ℕ) (s d : Board) → k < confined o s .steps
     → getD (course o s) k d ≡ run false (suc k) (o .level) s .left

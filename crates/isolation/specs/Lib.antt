@@ -1,4 +1,3 @@
 pub mod Sealed
 pub mod Course
 pub mod Isolation
-pub mod Confinement

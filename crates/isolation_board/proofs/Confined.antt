@@ -2,15 +2,21 @@
 -- Assumes nothing.
 use Prim.Native.Nat.{ℕ}
 use mathlib.Core.Path.{_≡_, sym, ap, _∙_}
+use mathlib.Core.Bool.{true}
 use mathlib.Core.List.{List, [], _∷_}
 use Rattle.memory.specs.Bytes.{Memory}
 use Rattle.machine.specs.Status.{Cpu}
-use Rattle.run.specs.Run.{Board, board, Ended}
+use Rattle.run.specs.Run.{Board, board, Ended, run}
 use Rattle.run.specs.Stopping.{stoppedAt}
 use Rattle.isolation.specs.Course.{Order, confined, Report, report}
 use Rattle.isolation.specs.Isolation.{Same, SameRun, SameRuns}
-use Rattle.isolation.specs.Confinement.{Answers, Outcome, Answered, SameOutcome, SameOutcomes, Confinement}
+use Rattle.isolation_board.specs.Confinement.{Answers, Outcome, Answered, SameOutcome, SameOutcomes, Confinement}
 use Rattle.isolation.proofs.Runs.{isolation}
+
+-- what the exported contract says of a confined run: it asks for nothing, and the answer is that of the definition
+pub answers-say : (c : Cpu) (m : Memory) (o : Order) (x : Outcome) → Answers c m o x
+    → stoppedAt (x .answer) (board (x .machine) (x .memory)) ≡ run true (o .budget) (o .level) (board c m)
+answers-say c m o x h = h tt
 
 module _ (H : ℕ → Type 0) (a₀ b₀ : Board) where
   -- one run on both sides, by what the code answered
@@ -27,11 +33,12 @@ module _ (H : ℕ → Type 0) (a₀ b₀ : Board) where
         first-b = left .first-b;
       }
     where
-      reports : report (stoppedAt (x .answer) (board (x .machine) (x .memory))) ≡ report (stoppedAt (y .answer) (board (y .machine) (y .memory)))
-      reports = ap (λ (e : Ended). report e) f ∙ s .answer ∙ ap (λ (e : Ended). report e) (sym g)
+      reports : report (stoppedAt (x .answer) (board (x .machine) (x .memory)))
+          ≡ report (stoppedAt (y .answer) (board (y .machine) (y .memory)))
+      reports = ap (λ (e : Ended). report e) (f tt) ∙ s .answer ∙ ap (λ (e : Ended). report e) (sym (g tt))
 
       left : Same H a₀ b₀ (board (x .machine) (x .memory)) (board (y .machine) (y .memory))
-      left = rw (ap (λ (e : Ended). e .left) f, ap (λ (e : Ended). e .left) g) (s .left)
+      left = rw (ap (λ (e : Ended). e .left) (f tt), ap (λ (e : Ended). e .left) (g tt)) (s .left)
 
   outcomes : (os : List Order) (a b : Cpu) (m n : Memory) (xs ys : List Outcome) → Answered a m os xs → Answered b n os ys
       → SameRuns H a₀ b₀ os (board a m) (board b n) → SameOutcomes H (a₀ .memory) (b₀ .memory) xs ys
@@ -41,11 +48,12 @@ module _ (H : ℕ → Type 0) (a₀ b₀ : Board) where
   outcomes (o ∷ os) a b m n [] ys f g s = absurd f
   outcomes (o ∷ os) a b m n (x ∷ xs) [] f g s = absurd g
   outcomes (o ∷ os) a b m n (x ∷ xs) (y ∷ ys) f g s =
-      (outcome o a b m n x y (f .0) (g .0) (s .0), outcomes os (x .machine) (y .machine) (x .memory) (y .memory) xs ys (f .1) (g .1) (moved (s .1)))
+      let rest = outcomes os (x .machine) (y .machine) (x .memory) (y .memory) xs ys (f .1) (g .1) (moved (s .1)) in
+      (outcome o a b m n x y (f .0) (g .0) (s .0), rest)
     where
       moved : SameRuns H a₀ b₀ os (confined o (board a m) .left) (confined o (board b n) .left)
           → SameRuns H a₀ b₀ os (board (x .machine) (x .memory)) (board (y .machine) (y .memory))
-      moved r = rw (ap (λ (e : Ended). e .left) (f .0), ap (λ (e : Ended). e .left) (g .0)) r
+      moved r = rw (ap (λ (e : Ended). e .left) (f .0 tt), ap (λ (e : Ended). e .left) (g .0 tt)) r
 
 pub confinement : Confinement
 confinement H a b m n apart os xs ys f g =

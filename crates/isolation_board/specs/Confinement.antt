@@ -1,5 +1,5 @@
 -- Demand 3 as a statement about the code: what `runs::running::run_lent`, which is frame 04, answers to every list of
--- confined runs, by its contract.
+-- confined runs, by the contract that it exports.
 -- Assumes nothing.
 use Prim.Native.Nat.{ℕ}
 use mathlib.Core.Path.{_≡_}
@@ -7,22 +7,23 @@ use mathlib.Core.Bool.{true}
 use mathlib.Core.List.{List, [], _∷_}
 use Rattle.memory.specs.Bytes.{Memory}
 use Rattle.machine.specs.Status.{Cpu}
-use Rattle.run.specs.Run.{board, run}
+use Rattle.run.specs.Run.{board}
 use Rattle.run.specs.declared.Stopped.{Stopped}
-use Rattle.run.specs.Stopping.{stoppedAt}
 use Rattle.isolation.specs.Sealed.{Agree, Kept}
 use Rattle.isolation.specs.Course.{Order}
 use Rattle.isolation.specs.Isolation.{Apart}
+use Rattle.isolation_board.specs.Calls.{RunPlaces, RunLent}
 
--- what a run left: its answer, the lent bank and cache, the lent memory
+-- a call of the code and what it left: its answer, the lent bank and cache, the lent memory
 pub record Outcome : Type 0 where
+  pub places : RunPlaces
   pub answer : Stopped
   pub machine : Cpu
   pub memory : Memory
 
--- the contract of the code at a confined run of a machine on the memory m
+-- the call was a confined run of a machine on the memory m
 abbrev pub Answers : Cpu → Memory → Order → Outcome → Type 0
-Answers c m o x = stoppedAt (x .answer) (board (x .machine) (x .memory)) ≡ run true (o .budget) (o .level) (board c m)
+Answers c m o x = RunLent (x .places) c m true (o .budget) (o .level) (x .answer) (x .machine) (x .memory)
 
 -- the outcomes of a list of runs: each later one gets the machine and the memory that the last one left
 abbrev pub Answered : Cpu → Memory → List Order → List Outcome → Type 0

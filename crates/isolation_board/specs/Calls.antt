@@ -1,0 +1,126 @@
+-- What a call of the code answered and left, as far as the contract tells that the called function exports to its callers:
+-- who shows what it asks for learns what it ensures.
+-- Assumes nothing.
+use Prim.Native.Nat.{ℕ}
+use mathlib.Core.Bool.{Bool}
+use mathlib.Core.List.{List}
+use base.Fml.{GName}
+use contract.Lifetimes.{Lfts}
+use denote.Ref.{RefT}
+use denote.Triple.Entry.{Args}
+use denote.Triple.Clauses.{Lasts, atExit}
+use Rattle.memory.specs.Bytes.{Memory}
+use Rattle.machine.specs.Registers.{Bank}
+use Rattle.machine.specs.Cache.{Cache}
+use Rattle.machine.specs.Status.{Cpu}
+use Rattle.run.specs.declared.Stopped.{Stopped}
+use Rattle.runs.proofs.running.run_lent as run-lent
+use Rattle.runs.proofs.running.run_lent.Reads as run-lent-contract
+use Rattle.conversation.specs.declared.Stream.{Stream}
+use Rattle.conversation.proofs.turns.converse as converse
+use Rattle.conversation.proofs.turns.converse.Reads as converse-contract
+use Rattle.conversation.proofs.turns.finish as finish
+use Rattle.conversation.proofs.turns.finish.Reads as finish-contract
+
+-- a reference's pointer and ghost name; no contract here says anything of them
+pub record Place : Type 0 where
+  pub ptr : ℕ × ℕ
+  pub name : GName
+
+abbrev pub lentAt : {X : Type 0} → Place → X → RefT X
+lentAt p x = record { ptr = p .ptr; name = p .name; now = x }
+
+-- ---- `runs::running::run_lent`
+
+-- the lifetimes and references of a call
+pub record RunPlaces : Type 0 where
+  pub lifetimes : Lfts 3
+  pub memory : Place
+  pub cache : Place
+  pub bank : Place
+
+-- on the machine c and the memory m it answered x and left the machine d and the memory n
+abbrev pub RunLent : RunPlaces → Cpu → Memory → Bool → ℕ → ℕ → Stopped → Cpu → Memory → Type 0
+RunLent p c m confined budget level x d n =
+    run-lent-contract.Asked (p .lifetimes) arguments
+    → run-lent-contract.Learnt (p .lifetimes) arguments x (atExit run-lent.ended (p .lifetimes) arguments left)
+  where
+    arguments : Args run-lent.signature (p .lifetimes)
+    arguments =
+        let cache = lentAt (p .cache) (c .cache) in
+        let bank = lentAt (p .bank) (c .bank) in
+        (lentAt (p .memory) m, (cache, (bank, (confined, (budget, (level, tt))))))
+
+    left : Lasts run-lent.ended (p .lifetimes) arguments
+    left = (n, (d .cache, (d .bank, (tt, (tt, (tt, tt))))))
+
+-- ---- `conversation::turns::converse` and `finish`, of the board program's loop
+
+pub record TurnPlaces : Type 0 where
+  pub lifetimes : Lfts 5
+  pub block : Place
+  pub memory : Place
+  pub cache : Place
+  pub bank : Place
+  pub buffer : Place
+
+-- the board and the buffer that a call is lent, and that it leaves
+pub record Lent : Type 0 where
+  pub machine : Cpu
+  pub memory : Memory
+  pub buffer : List ℕ
+
+abbrev pub lentTo : TurnPlaces → Lent → RefT Memory × (RefT Cache × (RefT Bank × (RefT (List ℕ) × Unit {0})))
+lentTo p s =
+    let cache = lentAt (p .cache) (s .machine .cache) in
+    let bank = lentAt (p .bank) (s .machine .bank) in
+    (lentAt (p .memory) (s .memory), (cache, (bank, (lentAt (p .buffer) (s .buffer), tt))))
+
+abbrev pub leftBy : Lent → Memory × (Cache × (Bank × (List ℕ × Unit {0})))
+leftBy s = (s .memory, (s .machine .cache, (s .machine .bank, (s .buffer, tt))))
+
+-- a turn of the loop: what it was given beside them, its answer, and what it left
+pub record TurnCall : Type 0 where
+  pub places : TurnPlaces
+  pub stream : Stream
+  pub end : ℕ
+  pub block : List ℕ
+  pub answer : Stream
+  pub blockLeft : List ℕ
+  pub left : Lent
+
+abbrev pub Converse : Lent → TurnCall → Type 0
+Converse s x =
+    converse-contract.Asked lifetimes arguments
+    → converse-contract.Learnt lifetimes arguments (x .answer) (atExit converse.ended lifetimes arguments left)
+  where
+    lifetimes : Lfts 5
+    lifetimes = x .places .lifetimes
+
+    arguments : Args converse.signature lifetimes
+    arguments = (x .stream, (x .end, (lentAt (x .places .block) (x .block), lentTo (x .places) s)))
+
+    left : Lasts converse.ended lifetimes arguments
+    left = (tt, (tt, (x .blockLeft, leftBy (x .left))))
+
+-- the end of input: what it was given, the place of the buffer that it answered, and what it left
+pub record LastCall : Type 0 where
+  pub places : TurnPlaces
+  pub stream : Stream
+  pub block : List ℕ
+  pub place : ℕ
+  pub left : Lent
+
+abbrev pub Finish : Lent → LastCall → Type 0
+Finish s x =
+    finish-contract.Asked lifetimes arguments
+    → finish-contract.Learnt lifetimes arguments (x .place) (atExit finish.ended lifetimes arguments left)
+  where
+    lifetimes : Lfts 5
+    lifetimes = x .places .lifetimes
+
+    arguments : Args finish.signature lifetimes
+    arguments = (x .stream, (lentAt (x .places .block) (x .block), lentTo (x .places) s))
+
+    left : Lasts finish.ended lifetimes arguments
+    left = (tt, (tt, leftBy (x .left)))

@@ -1,0 +1,126 @@
+-- Demand 3 of the board program's loop: what its turns answer on two boards, by the contracts that they export, where every
+-- line is a confined run or is refused.
+-- Assumes nothing.
+use Prim.Native.Nat.{ℕ}
+use mathlib.Core.Path.{_≡_}
+use mathlib.Core.Bool.{true}
+use mathlib.Core.List.{List, [], _∷_, _++_}
+use lib.ListN.{take, drop}
+use Rattle.memory.specs.Bytes.{Memory}
+use Rattle.machine.specs.Status.{Cpu}
+use Rattle.run.specs.Run.{Board, board}
+use Rattle.conversation.specs.Conversation.{next}
+use Rattle.conversation.specs.Stream.{turnLines, lastLine}
+use Rattle.isolation.specs.Sealed.{Agree, Kept}
+use Rattle.isolation.specs.Isolation.{Apart}
+use Rattle.isolation_board.specs.Calls.{Lent, TurnCall, Converse, LastCall, Finish}
+use Rattle.isolation_board.specs.Lines.{admits}
+
+-- ---- turns, each going on from what the last one left
+
+-- between two turns: the board and the buffer, the number of the last line, and the bytes that are kept
+pub record Between : Type 0 where
+  pub lent : Lent
+  pub last : ℕ
+  pub kept : List ℕ
+
+abbrev pub between : Lent → ℕ → List ℕ → Between
+between s n k = record { lent = s; last = n; kept = k }
+
+abbrev pub boardOf : Lent → Board
+boardOf s = board (s .machine) (s .memory)
+
+-- the bytes that a turn is given, and those that it keeps
+abbrev pub bytesGiven : TurnCall → List ℕ
+bytesGiven x = drop (x .stream .from) (take (x .end) (x .block))
+
+abbrev pub bytesKept : TurnCall → List ℕ
+bytesKept x = drop (x .answer .from) (take (x .answer .end) (x .blockLeft))
+
+abbrev pub afterTurn : TurnCall → Between
+afterTurn x = between (x .left) (x .answer .last) (bytesKept x)
+
+-- a turn that reads the bytes r, perhaps none
+pub record Turn (b : Between) (r : List ℕ) (x : TurnCall) : Type 0 where
+  pub number : x .stream .last ≡ b .last
+  pub bytes : bytesGiven x ≡ b .kept ++ r
+  pub answers : Converse (b .lent) x
+
+abbrev pub Turns : Between → List (List ℕ) → List TurnCall → Type 0
+Turns b [] [] = Unit {0}
+Turns b [] (x ∷ xs) = ⊥
+Turns b (r ∷ rs) [] = ⊥
+Turns b (r ∷ rs) (x ∷ xs) = Turn b r x × Turns (afterTurn x) rs xs
+
+-- every line that they answer is a confined run or is refused
+abbrev pub AdmittedTurns : Between → List (List ℕ) → List TurnCall → Type 0
+AdmittedTurns b [] xs = Unit {0}
+AdmittedTurns b (r ∷ rs) [] = Unit {0}
+AdmittedTurns b (r ∷ rs) (x ∷ xs) =
+    (admits (next (b .last)) (turnLines (b .kept ++ r)) (boardOf (b .lent)) ≡ true) × AdmittedTurns (afterTurn x) rs xs
+
+-- the end of input after them
+abbrev pub afterAll : Between → List TurnCall → Between
+afterAll b [] = b
+afterAll b (x ∷ xs) = afterAll (afterTurn x) xs
+
+abbrev pub lastBytes : LastCall → List ℕ
+lastBytes x = drop (x .stream .from) (take (x .stream .end) (x .block))
+
+pub record End (b : Between) (x : LastCall) : Type 0 where
+  pub number : x .stream .last ≡ b .last
+  pub bytes : lastBytes x ≡ b .kept
+  pub answers : Finish (b .lent) x
+
+abbrev pub AdmittedEnd : Between → Type 0
+AdmittedEnd b = admits (next (b .last)) (lastLine (b .kept)) (boardOf (b .lent)) ≡ true
+
+-- ---- what two calls left
+
+-- the boards and the buffers: equal but for the hidden pages, which hold the bytes of m and of n
+pub record SameLent (Hidden : ℕ → Type 0) (m n : Memory) (s t : Lent) : Type 0 where
+  pub buffer : s .buffer ≡ t .buffer
+  pub registers : s .machine ≡ t .machine
+  pub others : Agree Hidden (s .memory) (t .memory)
+  pub first-a : Kept Hidden m (s .memory)
+  pub first-b : Kept Hidden n (t .memory)
+
+-- the place up to which the buffer is written out, the number of the last line, what is kept, and whether a line ends in it
+pub record SameTurn (Hidden : ℕ → Type 0) (m n : Memory) (x y : TurnCall) : Type 0 where
+  pub place : x .answer .place ≡ y .answer .place
+  pub last : x .answer .last ≡ y .answer .last
+  pub kept : bytesKept x ≡ bytesKept y
+  pub more : x .answer .more ≡ y .answer .more
+  pub left : SameLent Hidden m n (x .left) (y .left)
+
+abbrev pub SameTurns : (ℕ → Type 0) → Memory → Memory → List TurnCall → List TurnCall → Type 0
+SameTurns Hidden m n [] [] = Unit {0}
+SameTurns Hidden m n [] (y ∷ ys) = ⊥
+SameTurns Hidden m n (x ∷ xs) [] = ⊥
+SameTurns Hidden m n (x ∷ xs) (y ∷ ys) = SameTurn Hidden m n x y × SameTurns Hidden m n xs ys
+
+pub record SameEnd (Hidden : ℕ → Type 0) (m n : Memory) (x y : LastCall) : Type 0 where
+  pub place : x .place ≡ y .place
+  pub left : SameLent Hidden m n (x .left) (y .left)
+
+-- ---- the loop
+
+abbrev pub begun : Cpu → Memory → List ℕ → ℕ → List ℕ → Between
+begun c m o i k = between (record { machine = c; memory = m; buffer = o }) i k
+
+-- for every two boards that are equal but for hidden pages, and every input, however it is read: the same after each turn
+abbrev pub ConfinedTurns : Type 1
+ConfinedTurns =
+    (Hidden : ℕ → Type 0) (a b : Cpu) (m n : Memory) → Apart Hidden (board a m) (board b n)
+    → (o : List ℕ) (i : ℕ) (k : List ℕ) (reads : List (List ℕ)) (xs ys : List TurnCall)
+    → AdmittedTurns (begun a m o i k) reads xs → Turns (begun a m o i k) reads xs → Turns (begun b n o i k) reads ys
+    → SameTurns Hidden m n xs ys
+
+-- and after the end of input, at which a last line may have no newline
+abbrev pub ConfinedEnd : Type 1
+ConfinedEnd =
+    (Hidden : ℕ → Type 0) (a b : Cpu) (m n : Memory) → Apart Hidden (board a m) (board b n)
+    → (o : List ℕ) (i : ℕ) (k : List ℕ) (reads : List (List ℕ)) (xs ys : List TurnCall)
+    → AdmittedTurns (begun a m o i k) reads xs → Turns (begun a m o i k) reads xs → Turns (begun b n o i k) reads ys
+    → (x y : LastCall) → AdmittedEnd (afterAll (begun a m o i k) xs)
+    → End (afterAll (begun a m o i k) xs) x → End (afterAll (begun b n o i k) ys) y → SameEnd Hidden m n x y
