@@ -3,6 +3,6 @@ pub mod LineLaws
 pub mod StreamLaws
 pub mod RoomLaws
 mod TellLaws
-mod TurnLaws
+mod TalkLaws
 mod CarryLaws
 mod PartLaws

@@ -1,4 +1,4 @@
--- The part of a block that is not answered yet: where it lies, before a turn of the loop and after it.
+-- The part of a block that is not answered yet: where it lies, before an exchange of the loop and after it.
 -- Assumes nothing.
 use mathlib.Core.Path.{_≡_, refl, sym, ap, _∙_}
 use mathlib.Core.Bool.{Bool, true, false, cond}
@@ -12,8 +12,8 @@ use borrow.Author.Tests.{ltb-true, ltb-false}
 use Rattle.laws.proofs.Cases.{by-test}
 use Rattle.conversation.specs.Conversation.{next}
 use Rattle.conversation.specs.Code.{Desk, toldOf}
-use Rattle.conversation.specs.Blocks.{endsLine, endedLines, together, sizeOf, Told, told, toldUnless, toldAll, Talked, talked, blockTold}
-use Rattle.conversation.specs.Stream.{turnLines, keptOf, turned, turnOf, lastLine}
+use Rattle.conversation.specs.Blocks.{endsLine, LineAnswered, lineAnswered, answeredUnless, toldAll, Talked, talked, blockTold}
+use Rattle.conversation.specs.Stream.{carriedOf, exchange, exchangeOf, lastLine}
 use Rattle.conversation.proofs.LineLaws.{lines-within}
 
 drop-take : (f e : ℕ) (b : List ℕ) → f ≤ e → drop f (take e b) ≡ take (e - f) (drop f b)
@@ -53,7 +53,7 @@ module _ (b : List ℕ) (from end e f : ℕ) (le : Least end (length b) e) (lf :
   pub part-length : length (take (e - f) (drop f b)) ≡ e - f
   part-length = length-take-le (e - f) (drop f b) (rw (length-drop f b) (omega (arith, le .1)))
 
-  -- the place that a turn leaves is within the part
+  -- the place that an exchange leaves is within the part
   pub rest-within : (n l r : ℕ) (m : Bool) (d d₀ : Desk) → talked d l r m ≡ blockTold n (take (e - f) (drop f b)) d₀ → f + r ≤ e
   rest-within n l r m d d₀ h =
       omega (arith, ap (λ (x : Talked). x .rest) h, lines-within false (take (e - f) (drop f b)), part-length, lf .1)
@@ -63,30 +63,30 @@ module _ (b : List ℕ) (from end e f : ℕ) (le : Least end (length b) e) (lf :
   beyond r = sym (drop-drop r f (take e b)) ∙ ap (λ (t : List ℕ). drop r t) (drop-take f e b (lf .1))
 
   module _ (n l r : ℕ) (m : Bool) (d d₀ : Desk) (h : talked d l r m ≡ blockTold n (take (e - f) (drop f b)) d₀) where
-    -- the answer of a turn with the bytes s kept
-    turn-is : (s : List ℕ) → s ≡ keptOf (drop r (take (e - f) (drop f b))) → turned d l s m ≡ turnOf n (drop from (take end b)) d₀
-    turn-is s g =
-        (λ i. turned (h i .desk) (h i .last)
-        ((g ∙ ap (λ (k : ℕ). keptOf (drop k (take (e - f) (drop f b)))) (ap (λ (x : Talked). x .rest) h)) i) (h i .more))
-        ∙ ap (λ (t : List ℕ). turnOf n t d₀) part
+    -- the answer of an exchange with the bytes s kept
+    exchange-is : (s : List ℕ) → s ≡ carriedOf (drop r (take (e - f) (drop f b))) → exchange d l s m ≡ exchangeOf n (drop from (take end b)) d₀
+    exchange-is s g =
+        (λ i. exchange (h i .desk) (h i .last)
+        ((g ∙ ap (λ (k : ℕ). carriedOf (drop k (take (e - f) (drop f b)))) (ap (λ (x : Talked). x .rest) h)) i) (h i .more))
+        ∙ ap (λ (t : List ℕ). exchangeOf n t d₀) part
 
     more-is : m ≡ endsLine (drop r (take (e - f) (drop f b)))
     more-is =
         ap (λ (x : Talked). x .more) h
         ∙ ap (λ (k : ℕ). endsLine (drop k (take (e - f) (drop f b)))) (sym (ap (λ (x : Talked). x .rest) h))
 
-    pub turn-more : m ≡ true → turned d l (drop (f + r) (take e b)) true ≡ turnOf n (drop from (take end b)) d₀
-    turn-more g =
-        ap (λ (x : Bool). turned d l (drop (f + r) (take e b)) x) (sym g)
-        ∙ turn-is (drop (f + r) (take e b))
+    pub exchange-more : m ≡ true → exchange d l (drop (f + r) (take e b)) true ≡ exchangeOf n (drop from (take end b)) d₀
+    exchange-more g =
+        ap (λ (x : Bool). exchange d l (drop (f + r) (take e b)) x) (sym g)
+        ∙ exchange-is (drop (f + r) (take e b))
         (beyond r ∙ ap (λ (x : Bool). cond x (drop r (take (e - f) (drop f b))) (take 75 (drop r (take (e - f) (drop f b))))) (sym g ∙ more-is))
 
-    pub turn-last : (k : ℕ) (c : List ℕ) → m ≡ false → take k c ≡ take 75 (take (e - (f + r)) (drop (f + r) b))
-        → turned d l (drop 0 (take k c)) false ≡ turnOf n (drop from (take end b)) d₀
-    turn-last k c g i =
+    pub exchange-last : (k : ℕ) (c : List ℕ) → m ≡ false → take k c ≡ take 75 (take (e - (f + r)) (drop (f + r) b))
+        → exchange d l (drop 0 (take k c)) false ≡ exchangeOf n (drop from (take end b)) d₀
+    exchange-last k c g i =
         let w = rest-within n l r m d d₀ h in
-        ap (λ (x : Bool). turned d l (take k c) x) (sym g)
-        ∙ turn-is (take k c)
+        ap (λ (x : Bool). exchange d l (take k c) x) (sym g)
+        ∙ exchange-is (take k c)
         (i
         ∙ ap (λ (t : List ℕ). take 75 t) (sym (drop-take (f + r) e b w) ∙ beyond r)
         ∙ ap (λ (x : Bool). cond x (drop r (take (e - f) (drop f b))) (take 75 (drop r (take (e - f) (drop f b))))) (sym g ∙ more-is))
@@ -101,10 +101,10 @@ module _ (b : List ℕ) (from end e f : ℕ) (le : Least end (length b) e) (lf :
       rw g refl
 
   pub one-left : (n k : ℕ) (d d₀ : Desk) (w : Bool) → (f ≡ e → ⊥) → k ≡ (n + 1) % 2 ^ 32
-      → told d w ≡ toldUnless false k (take (e - f) (drop f b)) d₀ → d ≡ toldAll (next n) (lastLine (drop from (take end b))) d₀
+      → lineAnswered d w ≡ answeredUnless false k (take (e - f) (drop f b)) d₀ → d ≡ toldAll (next n) (lastLine (drop from (take end b))) d₀
   unfolding toldAll
   one-left n k d d₀ w h i j =
-      ap (λ (x : Told). x .desk) j ∙ ap (λ (x : ℕ). toldOf x t d₀) i ∙ go t (omega (arith, part-length, lf .1, h)) ∙ ap (λ (s : List ℕ). toldAll (next n) (lastLine s) d₀) part
+      ap (λ (x : LineAnswered). x .desk) j ∙ ap (λ (x : ℕ). toldOf x t d₀) i ∙ go t (omega (arith, part-length, lf .1, h)) ∙ ap (λ (s : List ℕ). toldAll (next n) (lastLine s) d₀) part
     where
       t : List ℕ
       t = take (e - f) (drop f b)

@@ -21,7 +21,7 @@ use Rattle.lines.proofs.AnswerLaws.{length-written, written-on, fits}
 use Rattle.conversation.specs.Conversation.{Answered, unlessDone, lineAnswer, answerOf, next, conversation}
 use Rattle.conversation.specs.Code.{Desk, desk}
 use Rattle.conversation.specs.Blocks.{ontoEnded, endedLines, isLongRun, together, toldAll}
-use Rattle.conversation.specs.Stream.{turnLines, turnOf}
+use Rattle.conversation.specs.Stream.{exchangeLines, exchangeOf, lastLine}
 
 -- ---- what a line prints at most
 
@@ -94,9 +94,20 @@ room-together begun [] = omega arith
 room-together begun (s ∷ l) =
     by-test (begun && isLongRun (frameOf s)) (λ e. rw e (omega arith)) (λ e. rw e (omega (arith, room-together true l)))
 
--- ---- a turn of the loop
+-- ---- an exchange of the loop
 
-pub turn-printed : (n : ℕ) (t : List ℕ) (b : Board) (o : List ℕ) → length t * 13 ≤ length o
-    → turnOf n t (desk b (output o 0)) .desk ≡ talkedOver (conversation (next n) (turnLines t) b) o 0
-turn-printed n t b o h =
-    roomy (turnLines t) (next n) b o 0 (omega (arith, room-ended t, room-together false (endedLines t)))
+pub exchange-printed : (n : ℕ) (t : List ℕ) (b : Board) (o : List ℕ) → length t * 13 ≤ length o
+    → exchangeOf n t (desk b (output o 0)) .desk ≡ talkedOver (conversation (next n) (exchangeLines t) b) o 0
+exchange-printed n t b o h =
+    roomy (exchangeLines t) (next n) b o 0 (omega (arith, room-ended t, room-together false (endedLines t)))
+
+-- ---- the end of input
+
+room-last : (c : List ℕ) → room (lastLine c) ≤ suc (length c) * 13
+unfolding room
+room-last [] = omega arith
+room-last (b ∷ c) = omega arith
+
+pub end-printed : (n : ℕ) (c : List ℕ) (b : Board) (o : List ℕ) → suc (length c) * 13 ≤ length o
+    → toldAll (next n) (lastLine c) (desk b (output o 0)) ≡ talkedOver (conversation (next n) (lastLine c) b) o 0
+end-printed n c b o h = roomy (lastLine c) (next n) b o 0 (omega (arith, room-last c))

@@ -13,8 +13,9 @@ use Rattle.laws.proofs.Cases.{by-test}
 use Rattle.run.specs.Run.{Board}
 use Rattle.lines.proofs.FrameLaws.{too-long}
 use Rattle.conversation.specs.Conversation.{Answered, lineAnswer, answerOf, after, next, conversation, linesOf, startBoard, boardProgram}
+use Rattle.conversation.specs.Code.{Desk}
 use Rattle.conversation.specs.Blocks.{newlineAt, endsLine, sizeOf, lastOf}
-use Rattle.conversation.specs.Stream.{turnLines, keptOf, lastLine, streamed, whole}
+use Rattle.conversation.specs.Stream.{exchangeLines, mostCarried, carriedOf, exchangeOf, lastLine, streamed, whole}
 use Rattle.conversation.proofs.LineLaws.{Plain, lines-on, lines-split}
 
 -- ---- lines after lines
@@ -77,17 +78,24 @@ cut n c u b p =
 
 -- ---- the end of input
 
-pub last-line : (c : List ℕ) → Plain c → linesOf c ≡ lastLine c
+last-line : (c : List ℕ) → Plain c → linesOf c ≡ lastLine c
 unfolding newlineAt linesOf
 last-line [] p = refl
 last-line (b ∷ c) p = ap linesOf (sym (append-nil (b ∷ c))) ∙ lines-on b c [] p ∙ (λ i. append-nil (b ∷ c) i ∷ [])
 
--- ---- turns
+-- ---- exchanges
 
 -- bytes that are kept say as much as all
-kept-lines : (n : ℕ) (t u : List ℕ) (b : Board) → conversation n (linesOf (keptOf t ++ u)) b ≡ conversation n (linesOf (t ++ u)) b
+kept-lines : (n : ℕ) (t u : List ℕ) (b : Board) → conversation n (linesOf (carriedOf t ++ u)) b ≡ conversation n (linesOf (t ++ u)) b
 kept-lines n t u b =
     by-test (endsLine t) (λ h. rw h refl) (λ h. rw h (cut n t u b (ltb-false (newlineAt t) (length t) h)))
+
+-- where an exchange leaves no line that ends, what it keeps is one line or none: the loop then reads, or comes to its end
+pub end-lines : (n : ℕ) (t : List ℕ) (d : Desk) → exchangeOf n t d .more ≡ false
+    → linesOf (exchangeOf n t d .bytes) ≡ lastLine (exchangeOf n t d .bytes)
+end-lines n t d h =
+    let rest = drop (sizeOf (exchangeLines t)) t in
+    rw h (last-line (take mostCarried rest) (plain-take mostCarried rest (ltb-false (newlineAt rest) (length rest) h)))
 
 pub streamed-is : (xs : List (List ℕ)) (n : ℕ) (c : List ℕ) (b : Board)
     → streamed n c xs b ≡ conversation (next n) (linesOf (c ++ whole xs)) b .printed
@@ -95,11 +103,11 @@ unfolding streamed
 streamed-is [] n c b = ap (λ (t : List ℕ). conversation (next n) (linesOf t) b .printed) (sym (append-nil c))
 streamed-is (x ∷ xs) n c b =
     let t = c ++ x in
-    let l = turnLines t in
+    let l = exchangeLines t in
     let a = conversation (next n) l b in
     let rest = drop (sizeOf l) t in
     ap (λ (w : List ℕ). a .printed ++ w)
-    (streamed-is xs (lastOf n l) (keptOf rest) (a .board)
+    (streamed-is xs (lastOf n l) (carriedOf rest) (a .board)
     ∙ ap (λ (y : Answered). y .printed) (kept-lines (next (lastOf n l)) rest (whole xs) (a .board)))
     ∙ sym (conversed n l (linesOf (rest ++ whole xs)) b)
     ∙ sym (ap (λ (y : List (List ℕ)). conversation (next n) y b .printed) (lines-split (whole xs) false t))

@@ -20,7 +20,7 @@ use Rattle.lines.specs.Stores.{Stored, stored, storeOf}
 use Rattle.lines.specs.Answers.{Output, output, printed, refusedLine, ranLine}
 use Rattle.conversation.specs.Conversation.{unlessDone, hasRun, answerOf}
 use Rattle.conversation.specs.Code.{Desk, desk, laid}
-use Rattle.conversation.specs.Blocks.{isLongRun, told, toldUnless}
+use Rattle.conversation.specs.Blocks.{isLongRun, lineAnswered, answeredUnless}
 
 -- ---- nothing printed, and a refusal printed
 
@@ -100,10 +100,10 @@ module _ (begun : Bool) (n : ℕ) (s : List ℕ) (d : Desk) (f : Frame) (e : num
   test : begun && l ≡ begun && isLongRun (frameOf s)
   test = ap (λ (x : Bool). begun && x) (g ∙ ap isLongRun (same-frame f (frameOf s) e))
 
-  pub line-waits : begun && l ≡ true → told d true ≡ toldUnless begun n s d
+  pub line-waits : begun && l ≡ true → lineAnswered d true ≡ answeredUnless begun n s d
   line-waits h = rw (sym test ∙ h) refl
 
-  pub line-told : (x : Desk) → begun && l ≡ false → x ≡ laid (answerOf n s (d .board) f) (d .output) → told x false ≡ toldUnless begun n s d
+  pub line-told : (x : Desk) → begun && l ≡ false → x ≡ laid (answerOf n s (d .board) f) (d .output) → lineAnswered x false ≡ answeredUnless begun n s d
   line-told x h k =
       rw (sym test ∙ h)
-      (ap (λ (y : Desk). told y false) (k ∙ ap (λ (y : Frame). laid (answerOf n s (d .board) y) (d .output)) (same-frame f (frameOf s) e)))
+      (ap (λ (y : Desk). lineAnswered y false) (k ∙ ap (λ (y : Frame). laid (answerOf n s (d .board) y) (d .output)) (same-frame f (frameOf s) e)))

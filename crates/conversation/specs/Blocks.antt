@@ -45,15 +45,15 @@ isLongRun (Confined budget level) = leb manySteps budget
 isLongRun Bad = false
 
 -- a line put to the desk, unless it is a long run and others have begun; then it waits
-pub record Told : Type 0 where
+pub record LineAnswered : Type 0 where
   pub desk : Desk
   pub waits : Bool
 
-abbrev pub told : Desk → Bool → Told
-told d b = record { desk = d; waits = b }
+abbrev pub lineAnswered : Desk → Bool → LineAnswered
+lineAnswered d b = record { desk = d; waits = b }
 
-abbrev pub toldUnless : Bool → ℕ → List ℕ → Desk → Told
-toldUnless begun n s d = cond (begun && isLongRun (frameOf s)) (told d true) (told (toldOf n s d) false)
+abbrev pub answeredUnless : Bool → ℕ → List ℕ → Desk → LineAnswered
+answeredUnless begun n s d = cond (begun && isLongRun (frameOf s)) (lineAnswered d true) (lineAnswered (toldOf n s d) false)
 
 -- of lines that end, those that are answered before a write: up to a long run, unless that is the first (none has begun)
 unfoldable pub together : Bool → List (List ℕ) → List (List ℕ)
@@ -67,7 +67,7 @@ sizeOf (s ∷ t) = suc (length s) + sizeOf t
 
 -- ---- lines answered
 
--- lines put to the desk in turn, the first of them line n
+-- lines put to the desk one after the other, the first of them line n
 unfoldable pub toldAll : ℕ → List (List ℕ) → Desk → Desk
 toldAll n [] d = d
 toldAll n (s ∷ t) d = toldAll (next n) t (toldOf n s d)

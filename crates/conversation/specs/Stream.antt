@@ -11,32 +11,37 @@ use Rattle.conversation.specs.Code.{Desk}
 use Rattle.conversation.specs.Blocks.{endsLine, endedLines, together, sizeOf, toldAll, lastOf}
 
 -- the lines that are answered before the next write
-abbrev pub turnLines : List ℕ → List (List ℕ)
-turnLines t = together false (endedLines t)
+abbrev pub exchangeLines : List ℕ → List (List ℕ)
+exchangeLines t = together false (endedLines t)
 
--- the bytes that are kept: all where a line ends in them, else at most 75 of an unended line, which stays bad by them
-abbrev pub keptOf : List ℕ → List ℕ
-keptOf t = cond (endsLine t) t (take 75 t)
+-- no frame has as many digits, so an unended line that is cut there stays bad
+abbrev pub mostCarried : ℕ
+mostCarried = 75
 
-abbrev pub restOf : List ℕ → List ℕ
-restOf t = keptOf (drop (sizeOf (turnLines t)) t)
+-- the bytes that are kept: all where a line ends in them, else at most so many of an unended line
+abbrev pub carriedOf : List ℕ → List ℕ
+carriedOf t = cond (endsLine t) t (take mostCarried t)
 
--- ---- a turn of the loop
+abbrev pub exchangeRest : List ℕ → List ℕ
+exchangeRest t = carriedOf (drop (sizeOf (exchangeLines t)) t)
+
+-- ---- an exchange of the loop
 
 -- after it: the desk, the number of the last line, the bytes that are kept, and whether a line ends in them
-pub record Turned : Type 0 where
+pub record Exchange : Type 0 where
   pub desk : Desk
   pub last : ℕ
   pub bytes : List ℕ
   pub more : Bool
 
-abbrev pub turned : Desk → ℕ → List ℕ → Bool → Turned
-turned d n t b = record { desk = d; last = n; bytes = t; more = b }
+abbrev pub exchange : Desk → ℕ → List ℕ → Bool → Exchange
+exchange d n t b = record { desk = d; last = n; bytes = t; more = b }
 
 -- after line n, on the bytes that are there
-abbrev pub turnOf : ℕ → List ℕ → Desk → Turned
-turnOf n t d =
-    turned (toldAll (next n) (turnLines t) d) (lastOf n (turnLines t)) (restOf t) (endsLine (drop (sizeOf (turnLines t)) t))
+abbrev pub exchangeOf : ℕ → List ℕ → Desk → Exchange
+exchangeOf n t d =
+    exchange (toldAll (next n) (exchangeLines t) d) (lastOf n (exchangeLines t)) (exchangeRest t)
+    (endsLine (drop (sizeOf (exchangeLines t)) t))
 
 -- before the first of them: nothing is there, and no line has been answered
 abbrev pub beginning : Stream
@@ -47,18 +52,18 @@ abbrev pub lastLine : List ℕ → List (List ℕ)
 lastLine [] = []
 lastLine (b ∷ s) = (b ∷ s) ∷ []
 
--- ---- all turns
+-- ---- all exchanges
 
--- the lines of a turn, and what the rest of the input prints then
+-- the lines of an exchange, and what the rest of the input prints then
 abbrev pub thenPrinted : Answered → (Board → List ℕ) → List ℕ
 thenPrinted a rest = a .printed ++ rest (a .board)
 
--- what is printed after line n with c kept, where the turns read these bytes, perhaps none
+-- what is printed after line n with c kept, where the exchanges read these bytes, perhaps none
 unfoldable pub streamed : ℕ → List ℕ → List (List ℕ) → Board → List ℕ
 streamed n c [] b = conversation (next n) (linesOf c) b .printed
 streamed n c (x ∷ xs) b =
-    thenPrinted (conversation (next n) (turnLines (c ++ x)) b)
-    (λ d. streamed (lastOf n (turnLines (c ++ x))) (restOf (c ++ x)) xs d)
+    thenPrinted (conversation (next n) (exchangeLines (c ++ x)) b)
+    (λ d. streamed (lastOf n (exchangeLines (c ++ x))) (exchangeRest (c ++ x)) xs d)
 
 -- the input, whole
 abbrev pub whole : List (List ℕ) → List ℕ

@@ -16,7 +16,7 @@ ghost use Rattle.lines.specs.Answers.{output, printed};
 ghost use Rattle.lines.specs.Stores.{storeOf};
 ghost use Rattle.conversation.specs.Conversation.{unlessDone, hasRun, answerOf};
 ghost use Rattle.conversation.specs.Code.{deskOf, laid};
-ghost use Rattle.conversation.specs.Blocks.{isLongRun, told, toldUnless};
+ghost use Rattle.conversation.specs.Blocks.{isLongRun, lineAnswered, answeredUnless};
 
 // The refusal of a line that is no frame.
 const BAD_LINE: u32 = 7;
@@ -128,7 +128,7 @@ pub fn tell(
     out: &mut [u8],
     at: usize,
 ) -> AfterLine
-    ensures { λ x. ⌜ told (deskOf (cpu (now (r .exit)) (now (q .exit))) (now (m .exit)) (now (out .exit)) (x .place)) (x .waits) ≡ toldUnless begun number (now (line .entry)) (deskOf (cpu (now (r .entry)) (now (q .entry))) (now (m .entry)) (now (out .entry)) at) ⌝ }
+    ensures { λ x. ⌜ lineAnswered (deskOf (cpu (now (r .exit)) (now (q .exit))) (now (m .exit)) (now (out .exit)) (x .place)) (x .waits) ≡ answeredUnless begun number (now (line .entry)) (deskOf (cpu (now (r .entry)) (now (q .entry))) (now (m .entry)) (now (out .entry)) at) ⌝ }
 {
     let frame = parse(line);
     if begun & is_long_run(frame) {

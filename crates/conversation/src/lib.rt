@@ -1,7 +1,7 @@
 // The conversation of the board program: lines answered on a machine, its memory and a buffer, all of them lent.
 pub mod answers;
 pub mod blocks;
-pub mod turns;
+pub mod exchanges;
 
 // After a line: the place of the buffer, and whether the line waits for a write.
 pub struct AfterLine {
@@ -18,7 +18,7 @@ pub struct Talk {
     pub more: bool,
 }
 
-// Between two turns of the program's loop: the bytes of the block from `from` to `end` are not answered yet, `more` says
+// Between two exchanges of the program's loop: the bytes of the block from `from` to `end` are not answered yet, `more` says
 // whether a line ends in them, and `last` is the number of the last line. The first `place` bytes of the buffer are to be
 // written.
 pub struct Stream {

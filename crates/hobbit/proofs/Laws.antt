@@ -15,7 +15,7 @@ use Rattle.run.specs.declared.Stopped.{Stopped}
 use Rattle.run.specs.Stopping.{stoppedAt}
 use Rattle.runs.specs.Code.{advanced, oneStep}
 use Rattle.hobbit.specs.declared.HobbitAnswer.{HobbitAnswer}
-use Rattle.hobbit.specs.Blocks.{boardIn, blocks, blocksOf, returned, endedIn, stepped, advancedIn}
+use Rattle.hobbit.specs.Blocks.{boardIn, blocks, blocksOf, runAnswer, endedIn, stepAnswer, advancedIn}
 
 -- r and c are the blocks at the call, q the quad-words read from c and p those that the run left, d the bank and l the
 -- memory that it left, f what is written back
@@ -26,15 +26,15 @@ module _ (r c : List ℕ) (m : Memory) (q : Cache) (eq : q ≡ quadsOf c) (d : B
 
   pub run-returned : (confined : Bool) (budget level : ℕ) (a : HobbitAnswer) → a .steps ≡ x .steps → a .stop ≡ x .stop → a .code ≡ x .code
       → stoppedAt x (board (cpu d p) l) ≡ run confined budget level (board (cpu r q) m)
-      → returned a (blocks d f l) ≡ endedIn (run confined budget level (boardIn r c m))
+      → runAnswer a (blocks d f l) ≡ endedIn (run confined budget level (boardIn r c m))
   run-returned confined budget level a g h i e =
       (λ j. record { steps = g j; stop = h j; code = i j; left = blocks d (ef j) l })
       ∙ ap (λ (y : Ended). endedIn y) (returns-run confined budget level e)
 
   pub step-returned : (level : ℕ) → stoppedAt x (board (cpu d p) l) ≡ run false 1 level (board (cpu r q) m)
-      → stepped (x .code) (blocks d f l) ≡ advancedIn (oneStep level (boardIn r c m))
+      → stepAnswer (x .code) (blocks d f l) ≡ advancedIn (oneStep level (boardIn r c m))
   step-returned level e =
-      (λ j. stepped (x .code) (blocks d (ef j) l))
+      (λ j. stepAnswer (x .code) (blocks d (ef j) l))
       ∙ ap (λ (y : Ended). advancedIn (advanced (y .code) (y .left))) (returns-run false 1 level e)
 
 -- "a refused request changes nothing": the blocks of a board that was not changed are the caller's

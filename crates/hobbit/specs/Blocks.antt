@@ -31,25 +31,25 @@ abbrev pub blocksOf : Board → Blocks
 blocksOf s = blocks (s .cpu .bank) (flatOf (s .cpu .cache)) (s .memory)
 
 -- a run's answer, with the blocks that it left
-pub record Returned : Type 0 where
+pub record RunAnswer : Type 0 where
   pub steps : ℕ
   pub stop : ℕ
   pub code : ℕ
   pub left : Blocks
 
-abbrev pub returned : HobbitAnswer → Blocks → Returned
-returned x b = record { steps = x .steps; stop = x .stop; code = x .code; left = b }
+abbrev pub runAnswer : HobbitAnswer → Blocks → RunAnswer
+runAnswer x b = record { steps = x .steps; stop = x .stop; code = x .code; left = b }
 
-abbrev pub endedIn : Ended → Returned
+abbrev pub endedIn : Ended → RunAnswer
 endedIn e = record { steps = e .steps; stop = e .stop; code = e .code; left = blocksOf (e .left) }
 
 -- a step's: 0 or the refusal
-pub record Stepped : Type 0 where
+pub record StepAnswer : Type 0 where
   pub refusal : ℕ
   pub left : Blocks
 
-abbrev pub stepped : ℕ → Blocks → Stepped
-stepped r b = record { refusal = r; left = b }
+abbrev pub stepAnswer : ℕ → Blocks → StepAnswer
+stepAnswer r b = record { refusal = r; left = b }
 
-abbrev pub advancedIn : Advanced → Stepped
-advancedIn a = stepped (a .refusal) (blocksOf (a .left))
+abbrev pub advancedIn : Advanced → StepAnswer
+advancedIn a = stepAnswer (a .refusal) (blocksOf (a .left))

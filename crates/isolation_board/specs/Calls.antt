@@ -17,10 +17,10 @@ use Rattle.run.specs.declared.Stopped.{Stopped}
 use Rattle.runs.proofs.running.run_lent as run-lent
 use Rattle.runs.proofs.running.run_lent.Reads as run-lent-contract
 use Rattle.conversation.specs.declared.Stream.{Stream}
-use Rattle.conversation.proofs.turns.converse as converse
-use Rattle.conversation.proofs.turns.converse.Reads as converse-contract
-use Rattle.conversation.proofs.turns.finish as finish
-use Rattle.conversation.proofs.turns.finish.Reads as finish-contract
+use Rattle.conversation.proofs.exchanges.converse as converse
+use Rattle.conversation.proofs.exchanges.converse.Reads as converse-contract
+use Rattle.conversation.proofs.exchanges.finish as finish
+use Rattle.conversation.proofs.exchanges.finish.Reads as finish-contract
 
 -- a reference's pointer and ghost name; no contract here says anything of them
 pub record Place : Type 0 where
@@ -54,9 +54,9 @@ RunLent p c m confined budget level x d n =
     left : Lasts run-lent.ended (p .lifetimes) arguments
     left = (n, (d .cache, (d .bank, (tt, (tt, (tt, tt))))))
 
--- ---- `conversation::turns::converse` and `finish`, of the board program's loop
+-- ---- `conversation::exchanges::converse` and `finish`, of the board program's loop
 
-pub record TurnPlaces : Type 0 where
+pub record ExchangePlaces : Type 0 where
   pub lifetimes : Lfts 5
   pub block : Place
   pub memory : Place
@@ -70,7 +70,7 @@ pub record Lent : Type 0 where
   pub memory : Memory
   pub buffer : List ℕ
 
-abbrev pub lentTo : TurnPlaces → Lent → RefT Memory × (RefT Cache × (RefT Bank × (RefT (List ℕ) × Unit {0})))
+abbrev pub lentTo : ExchangePlaces → Lent → RefT Memory × (RefT Cache × (RefT Bank × (RefT (List ℕ) × Unit {0})))
 lentTo p s =
     let cache = lentAt (p .cache) (s .machine .cache) in
     let bank = lentAt (p .bank) (s .machine .bank) in
@@ -79,9 +79,9 @@ lentTo p s =
 abbrev pub leftBy : Lent → Memory × (Cache × (Bank × (List ℕ × Unit {0})))
 leftBy s = (s .memory, (s .machine .cache, (s .machine .bank, (s .buffer, tt))))
 
--- a turn of the loop: what it was given beside them, its answer, and what it left
-pub record TurnCall : Type 0 where
-  pub places : TurnPlaces
+-- an exchange of the loop: what it was given beside them, its answer, and what it left
+pub record ExchangeCall : Type 0 where
+  pub places : ExchangePlaces
   pub stream : Stream
   pub end : ℕ
   pub block : List ℕ
@@ -89,7 +89,7 @@ pub record TurnCall : Type 0 where
   pub blockLeft : List ℕ
   pub left : Lent
 
-abbrev pub Converse : Lent → TurnCall → Type 0
+abbrev pub Converse : Lent → ExchangeCall → Type 0
 Converse s x =
     converse-contract.Asked lifetimes arguments
     → converse-contract.Learnt lifetimes arguments (x .answer) (atExit converse.ended lifetimes arguments left)
@@ -105,7 +105,7 @@ Converse s x =
 
 -- the end of input: what it was given, the place of the buffer that it answered, and what it left
 pub record LastCall : Type 0 where
-  pub places : TurnPlaces
+  pub places : ExchangePlaces
   pub stream : Stream
   pub block : List ℕ
   pub place : ℕ

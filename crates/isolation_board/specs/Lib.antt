@@ -2,6 +2,6 @@ pub mod Calls
 pub mod Confinement
 pub mod Lines
 pub mod Desks
-pub mod Turns
+pub mod Exchanges
 pub mod Stepping
 pub mod Witness

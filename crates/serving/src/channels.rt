@@ -29,6 +29,7 @@ pub(crate) fn receive(s: Stream, block: &mut [u8]) -> Input {
     }
     let mut turns = u64::MAX;
     while 0 < turns {
+        // Never: what is kept is shorter than the block.
         if block.len() <= end {
             return Input::Failed;
         }

@@ -1,14 +1,14 @@
-// The loop of a board program: lines from standard input, answers to standard output. It reads, takes a turn of the
-// conversation (`conversation::turns`), and writes what that answered; no contract can say what is read or written.
+// The loop of a board program: lines from standard input, answers to standard output. It reads, makes an exchange of
+// the conversation (`conversation::exchanges`), and writes what that answered; no contract can say what is read or written.
 mod channels;
 mod waiting;
 
 use crate::channels::Input;
 use crate::channels::receive;
 use crate::channels::send;
-use conversation::turns::begin;
-use conversation::turns::converse;
-use conversation::turns::finish;
+use conversation::exchanges::begin;
+use conversation::exchanges::converse;
+use conversation::exchanges::finish;
 use machine::record::start_bank;
 use machine::record::start_cache;
 

@@ -14,7 +14,7 @@ use Rattle.lines.specs.Stores.{storeOf}
 use Rattle.lines.specs.Answers.{newline, refusedLine, ranLine}
 use Rattle.conversation.specs.Conversation.{answerOf, conversation, linesOf, boardProgram}
 use Rattle.conversation.specs.Blocks.{newlineAt, endedLines, together, sizeOf, lastOf}
-use Rattle.conversation.specs.Stream.{turnLines, restOf}
+use Rattle.conversation.specs.Stream.{exchangeLines, exchangeRest}
 use Rattle.witnesses.specs.Boards.{is, all, page}
 
 -- ---- frames: a kind's number, or 7 for a bad line
@@ -83,33 +83,33 @@ conversations =
     ∷ is (length (boardProgram (digits 12 0x0300_0000_0007))) 31 0
     ∷ []
 
--- ---- turns of the program's loop
+-- ---- exchanges of the program's loop
 
 -- runs of budget 0, of 0x1000 steps and, confined, of 0xFFFFFFFF
-abbrev pub noStep : List ℕ
-noStep = line 0x0300_0000_0007
+abbrev pub noStepRun : List ℕ
+noStepRun = line 0x0300_0000_0007
 
-abbrev pub manySteps : List ℕ
-manySteps = line 0x0300_0010_0007
+abbrev pub longRun : List ℕ
+longRun = line 0x0300_0010_0007
 
-abbrev pub mostSteps : List ℕ
-mostSteps = line 0x04FF_FFFF_FF07
+abbrev pub longestRun : List ℕ
+longestRun = line 0x04FF_FFFF_FF07
 
-unfoldable pub turns : List Bool
-turns =
+unfoldable pub exchanges : List Bool
+exchanges =
     -- answers held back by a long run
-    is (length (turnLines (noStep ++ noStep ++ manySteps))) 2 3
-    ∷ is (length (turnLines (noStep ++ mostSteps ++ noStep))) 1 3
+    is (length (exchangeLines (noStepRun ++ noStepRun ++ longRun))) 2 3
+    ∷ is (length (exchangeLines (noStepRun ++ longestRun ++ noStepRun))) 1 3
     -- a long run that waits though nothing has been answered
-    ∷ is (length (turnLines (manySteps ++ noStep))) 2 0
+    ∷ is (length (exchangeLines (longRun ++ noStepRun))) 2 0
     -- a line answered and kept, or neither answered nor kept
-    ∷ is (length (restOf (noStep ++ manySteps ++ noStep))) 26 39
-    ∷ is (length (restOf (noStep ++ manySteps ++ noStep))) 26 13
+    ∷ is (length (exchangeRest (noStepRun ++ longRun ++ noStepRun))) 26 39
+    ∷ is (length (exchangeRest (noStepRun ++ longRun ++ noStepRun))) 26 13
     -- an unended line kept whole, or not at all
-    ∷ is (length (restOf (digits 80 0))) 75 80
-    ∷ is (length (restOf (noStep ++ digits 10 0))) 10 0
-    -- lines numbered from 1 in every turn
-    ∷ is (lastOf 5 (turnLines (noStep ++ noStep))) 7 2
+    ∷ is (length (exchangeRest (digits 80 0))) 75 80
+    ∷ is (length (exchangeRest (noStepRun ++ digits 10 0))) 10 0
+    -- lines numbered from 1 in every exchange
+    ∷ is (lastOf 5 (exchangeLines (noStepRun ++ noStepRun))) 7 2
     ∷ []
 
 -- document 01, "Whole case"
@@ -130,6 +130,6 @@ pub conversations-checked : T (all conversations)
 unfolding conversations frameOf digitOf digit setRegister answerOf conversation linesOf run refusal goodBank advance
 conversations-checked = tt
 
-pub turns-checked : T (all turns)
-unfolding turns frameOf digitOf digit newlineAt endedLines together sizeOf lastOf
-turns-checked = tt
+pub exchanges-checked : T (all exchanges)
+unfolding exchanges frameOf digitOf digit newlineAt endedLines together sizeOf lastOf
+exchanges-checked = tt

@@ -1,4 +1,4 @@
-use Rattle.conversation.proofs.TurnLaws.{Talking, talking-none, talking-long, talking-more, talking-over}
+use Rattle.conversation.proofs.TalkLaws.{Talking, talking-none, talking-long, talking-more, talking-over}
 use Rattle.conversation.specs.Code.{deskOf}
 use Rattle.machine.specs.Status.{cpu}
 use native.Mathlib.Omega.{arith}

@@ -1,7 +1,7 @@
 use Rattle.conversation.proofs.PartLaws.{none-left, one-left}
 use borrow.Author.Needs.{needs}
-use Rattle.conversation.proofs.turns.finish.Statement.{statement}
-use Rattle.conversation.proofs.turns.finish.Tie as tie
+use Rattle.conversation.proofs.exchanges.finish.Statement.{statement}
+use Rattle.conversation.proofs.exchanges.finish.Tie as tie
 
 least-requires : tie.Need-least-requires
 least-requires c κs = search needs

@@ -1,4 +1,4 @@
--- Demand 3 of the board program's loop: what its turns answer on two boards, by the contracts that they export, where every
+-- Demand 3 of the board program's loop: what its exchanges answer on two boards, by the contracts that they export, where every
 -- line is a confined run or is refused.
 -- Assumes nothing.
 use Prim.Native.Nat.{ℕ}
@@ -10,15 +10,15 @@ use Rattle.memory.specs.Bytes.{Memory}
 use Rattle.machine.specs.Status.{Cpu}
 use Rattle.run.specs.Run.{Board, board}
 use Rattle.conversation.specs.Conversation.{next}
-use Rattle.conversation.specs.Stream.{turnLines, lastLine}
+use Rattle.conversation.specs.Stream.{exchangeLines, lastLine}
 use Rattle.isolation.specs.Sealed.{Agree, Kept}
 use Rattle.isolation.specs.Isolation.{Apart}
-use Rattle.isolation_board.specs.Calls.{Lent, TurnCall, Converse, LastCall, Finish}
+use Rattle.isolation_board.specs.Calls.{Lent, ExchangeCall, Converse, LastCall, Finish}
 use Rattle.isolation_board.specs.Lines.{admits}
 
--- ---- turns, each going on from what the last one left
+-- ---- exchanges, each going on from what the last one left
 
--- between two turns: the board and the buffer, the number of the last line, and the bytes that are kept
+-- between two exchanges: the board and the buffer, the number of the last line, and the bytes that are kept
 pub record Between : Type 0 where
   pub lent : Lent
   pub last : ℕ
@@ -30,39 +30,39 @@ between s n k = record { lent = s; last = n; kept = k }
 abbrev pub boardOf : Lent → Board
 boardOf s = board (s .machine) (s .memory)
 
--- the bytes that a turn is given, and those that it keeps
-abbrev pub bytesGiven : TurnCall → List ℕ
+-- the bytes that an exchange is given, and those that it keeps
+abbrev pub bytesGiven : ExchangeCall → List ℕ
 bytesGiven x = drop (x .stream .from) (take (x .end) (x .block))
 
-abbrev pub bytesKept : TurnCall → List ℕ
+abbrev pub bytesKept : ExchangeCall → List ℕ
 bytesKept x = drop (x .answer .from) (take (x .answer .end) (x .blockLeft))
 
-abbrev pub afterTurn : TurnCall → Between
-afterTurn x = between (x .left) (x .answer .last) (bytesKept x)
+abbrev pub afterExchange : ExchangeCall → Between
+afterExchange x = between (x .left) (x .answer .last) (bytesKept x)
 
--- a turn that reads the bytes r, perhaps none
-pub record Turn (b : Between) (r : List ℕ) (x : TurnCall) : Type 0 where
+-- an exchange that reads the bytes r, perhaps none
+pub record Exchanging (b : Between) (r : List ℕ) (x : ExchangeCall) : Type 0 where
   pub number : x .stream .last ≡ b .last
   pub bytes : bytesGiven x ≡ b .kept ++ r
   pub answers : Converse (b .lent) x
 
-abbrev pub Turns : Between → List (List ℕ) → List TurnCall → Type 0
-Turns b [] [] = Unit {0}
-Turns b [] (x ∷ xs) = ⊥
-Turns b (r ∷ rs) [] = ⊥
-Turns b (r ∷ rs) (x ∷ xs) = Turn b r x × Turns (afterTurn x) rs xs
+abbrev pub Exchanges : Between → List (List ℕ) → List ExchangeCall → Type 0
+Exchanges b [] [] = Unit {0}
+Exchanges b [] (x ∷ xs) = ⊥
+Exchanges b (r ∷ rs) [] = ⊥
+Exchanges b (r ∷ rs) (x ∷ xs) = Exchanging b r x × Exchanges (afterExchange x) rs xs
 
 -- every line that they answer is a confined run or is refused
-abbrev pub AdmittedTurns : Between → List (List ℕ) → List TurnCall → Type 0
-AdmittedTurns b [] xs = Unit {0}
-AdmittedTurns b (r ∷ rs) [] = Unit {0}
-AdmittedTurns b (r ∷ rs) (x ∷ xs) =
-    (admits (next (b .last)) (turnLines (b .kept ++ r)) (boardOf (b .lent)) ≡ true) × AdmittedTurns (afterTurn x) rs xs
+abbrev pub AdmittedExchanges : Between → List (List ℕ) → List ExchangeCall → Type 0
+AdmittedExchanges b [] xs = Unit {0}
+AdmittedExchanges b (r ∷ rs) [] = Unit {0}
+AdmittedExchanges b (r ∷ rs) (x ∷ xs) =
+    (admits (next (b .last)) (exchangeLines (b .kept ++ r)) (boardOf (b .lent)) ≡ true) × AdmittedExchanges (afterExchange x) rs xs
 
 -- the end of input after them
-abbrev pub afterAll : Between → List TurnCall → Between
+abbrev pub afterAll : Between → List ExchangeCall → Between
 afterAll b [] = b
-afterAll b (x ∷ xs) = afterAll (afterTurn x) xs
+afterAll b (x ∷ xs) = afterAll (afterExchange x) xs
 
 abbrev pub lastBytes : LastCall → List ℕ
 lastBytes x = drop (x .stream .from) (take (x .stream .end) (x .block))
@@ -86,18 +86,18 @@ pub record SameLent (Hidden : ℕ → Type 0) (m n : Memory) (s t : Lent) : Type
   pub first-b : Kept Hidden n (t .memory)
 
 -- the place up to which the buffer is written out, the number of the last line, what is kept, and whether a line ends in it
-pub record SameTurn (Hidden : ℕ → Type 0) (m n : Memory) (x y : TurnCall) : Type 0 where
+pub record SameExchange (Hidden : ℕ → Type 0) (m n : Memory) (x y : ExchangeCall) : Type 0 where
   pub place : x .answer .place ≡ y .answer .place
   pub last : x .answer .last ≡ y .answer .last
   pub kept : bytesKept x ≡ bytesKept y
   pub more : x .answer .more ≡ y .answer .more
   pub left : SameLent Hidden m n (x .left) (y .left)
 
-abbrev pub SameTurns : (ℕ → Type 0) → Memory → Memory → List TurnCall → List TurnCall → Type 0
-SameTurns Hidden m n [] [] = Unit {0}
-SameTurns Hidden m n [] (y ∷ ys) = ⊥
-SameTurns Hidden m n (x ∷ xs) [] = ⊥
-SameTurns Hidden m n (x ∷ xs) (y ∷ ys) = SameTurn Hidden m n x y × SameTurns Hidden m n xs ys
+abbrev pub SameExchanges : (ℕ → Type 0) → Memory → Memory → List ExchangeCall → List ExchangeCall → Type 0
+SameExchanges Hidden m n [] [] = Unit {0}
+SameExchanges Hidden m n [] (y ∷ ys) = ⊥
+SameExchanges Hidden m n (x ∷ xs) [] = ⊥
+SameExchanges Hidden m n (x ∷ xs) (y ∷ ys) = SameExchange Hidden m n x y × SameExchanges Hidden m n xs ys
 
 pub record SameEnd (Hidden : ℕ → Type 0) (m n : Memory) (x y : LastCall) : Type 0 where
   pub place : x .place ≡ y .place
@@ -108,19 +108,19 @@ pub record SameEnd (Hidden : ℕ → Type 0) (m n : Memory) (x y : LastCall) : T
 abbrev pub begun : Cpu → Memory → List ℕ → ℕ → List ℕ → Between
 begun c m o i k = between (record { machine = c; memory = m; buffer = o }) i k
 
--- for every two boards that are equal but for hidden pages, and every input, however it is read: the same after each turn
-abbrev pub ConfinedTurns : Type 1
-ConfinedTurns =
+-- for every two boards that are equal but for hidden pages, and every input, however it is read: the same after each exchange
+abbrev pub ConfinedExchanges : Type 1
+ConfinedExchanges =
     (Hidden : ℕ → Type 0) (a b : Cpu) (m n : Memory) → Apart Hidden (board a m) (board b n)
-    → (o : List ℕ) (i : ℕ) (k : List ℕ) (reads : List (List ℕ)) (xs ys : List TurnCall)
-    → AdmittedTurns (begun a m o i k) reads xs → Turns (begun a m o i k) reads xs → Turns (begun b n o i k) reads ys
-    → SameTurns Hidden m n xs ys
+    → (o : List ℕ) (i : ℕ) (k : List ℕ) (reads : List (List ℕ)) (xs ys : List ExchangeCall)
+    → AdmittedExchanges (begun a m o i k) reads xs → Exchanges (begun a m o i k) reads xs → Exchanges (begun b n o i k) reads ys
+    → SameExchanges Hidden m n xs ys
 
 -- and after the end of input, at which a last line may have no newline
 abbrev pub ConfinedEnd : Type 1
 ConfinedEnd =
     (Hidden : ℕ → Type 0) (a b : Cpu) (m n : Memory) → Apart Hidden (board a m) (board b n)
-    → (o : List ℕ) (i : ℕ) (k : List ℕ) (reads : List (List ℕ)) (xs ys : List TurnCall)
-    → AdmittedTurns (begun a m o i k) reads xs → Turns (begun a m o i k) reads xs → Turns (begun b n o i k) reads ys
+    → (o : List ℕ) (i : ℕ) (k : List ℕ) (reads : List (List ℕ)) (xs ys : List ExchangeCall)
+    → AdmittedExchanges (begun a m o i k) reads xs → Exchanges (begun a m o i k) reads xs → Exchanges (begun b n o i k) reads ys
     → (x y : LastCall) → AdmittedEnd (afterAll (begun a m o i k) xs)
     → End (afterAll (begun a m o i k) xs) x → End (afterAll (begun b n o i k) ys) y → SameEnd Hidden m n x y

@@ -1,4 +1,4 @@
--- What the turns of the board program's loop answer on two boards that are equal but for hidden pages.
+-- What the exchanges of the board program's loop answer on two boards that are equal but for hidden pages.
 -- Assumes nothing.
 use Prim.Native.Nat.{ℕ}
 use mathlib.Core.Path.{_≡_, refl, sym, ap, _∙_}
@@ -11,25 +11,25 @@ use Rattle.lines.specs.Answers.{Output, output}
 use Rattle.conversation.specs.Conversation.{next}
 use Rattle.conversation.specs.Code.{Desk, desk, deskOf}
 use Rattle.conversation.specs.Blocks.{toldAll}
-use Rattle.conversation.specs.Stream.{turnLines, Turned, turned, turnOf, lastLine}
+use Rattle.conversation.specs.Stream.{exchangeLines, Exchange, exchange, exchangeOf, lastLine}
 use Rattle.isolation.specs.Isolation.{Apart}
-use Rattle.isolation_board.specs.Calls.{Lent, TurnCall, Converse, LastCall, Finish}
+use Rattle.isolation_board.specs.Calls.{Lent, ExchangeCall, Converse, LastCall, Finish}
 use Rattle.isolation_board.specs.Lines.{admits}
-use Rattle.isolation_board.specs.Turns.{Between, boardOf, bytesGiven, bytesKept, lastBytes, afterTurn, Turn, Turns}
-use Rattle.isolation_board.specs.Turns.{afterAll, End, AdmittedTurns, AdmittedEnd, SameLent, SameTurn, SameTurns, SameEnd}
-use Rattle.isolation_board.specs.Turns.{begun, ConfinedTurns, ConfinedEnd}
+use Rattle.isolation_board.specs.Exchanges.{Between, boardOf, bytesGiven, bytesKept, lastBytes, afterExchange, Exchanging, Exchanges}
+use Rattle.isolation_board.specs.Exchanges.{afterAll, End, AdmittedExchanges, AdmittedEnd, SameLent, SameExchange, SameExchanges, SameEnd}
+use Rattle.isolation_board.specs.Exchanges.{begun, ConfinedExchanges, ConfinedEnd}
 use Rattle.isolation_board.proofs.Lines.{Alike, alike}
 use Rattle.isolation_board.proofs.Desks.{desks-same}
 
 abbrev deskBy : Lent → ℕ → Desk
 deskBy s p = deskOf (s .machine) (s .memory) (s .buffer) p
 
-abbrev turnedBy : TurnCall → Turned
-turnedBy x = turned (deskBy (x .left) (x .answer .place)) (x .answer .last) (bytesKept x) (x .answer .more)
+abbrev exchangeBy : ExchangeCall → Exchange
+exchangeBy x = exchange (deskBy (x .left) (x .answer .place)) (x .answer .last) (bytesKept x) (x .answer .more)
 
--- what the exported contracts say: they ask for nothing, and a turn and the end are those of the definitions
-pub converse-says : (s : Lent) (x : TurnCall)
-    → Converse s x → turnedBy x ≡ turnOf (x .stream .last) (bytesGiven x) (deskBy s 0)
+-- what the exported contracts say: they ask for nothing, and an exchange and the end are those of the definitions
+pub converse-says : (s : Lent) (x : ExchangeCall)
+    → Converse s x → exchangeBy x ≡ exchangeOf (x .stream .last) (bytesGiven x) (deskBy s 0)
 converse-says s x h = h tt
 
 pub finish-says : (s : Lent) (x : LastCall)
@@ -50,48 +50,48 @@ module _ (H : ℕ → Type 0) (a₀ b₀ : Board) where
       let w = h .now in
       record { buffer = e; registers = w .registers; others = w .others; first-a = w .first-a; first-b = w .first-b }
 
-  -- ---- a turn, the second side's by the number, the bytes and the buffer of the first
+  -- ---- an exchange, the second side's by the number, the bytes and the buffer of the first
 
   abbrev secondDesk : Between → Between → Desk
   secondDesk b d = desk (boardOf (d .lent)) (output (b .lent .buffer) 0)
 
-  turn-first : (b : Between) (r : List ℕ) (x : TurnCall) → Turn b r x
-      → turnedBy x ≡ turnOf (b .last) (b .kept ++ r) (deskBy (b .lent) 0)
-  turn-first b r x t = converse-says (b .lent) x (t .answers) ∙ (λ i. turnOf (t .number i) (t .bytes i) (deskBy (b .lent) 0))
+  exchange-first : (b : Between) (r : List ℕ) (x : ExchangeCall) → Exchanging b r x
+      → exchangeBy x ≡ exchangeOf (b .last) (b .kept ++ r) (deskBy (b .lent) 0)
+  exchange-first b r x t = converse-says (b .lent) x (t .answers) ∙ (λ i. exchangeOf (t .number i) (t .bytes i) (deskBy (b .lent) 0))
 
-  turn-second : (b d : Between) (r : List ℕ) (y : TurnCall) → Level b d → Turn d r y
-      → turnedBy y ≡ turnOf (b .last) (b .kept ++ r) (secondDesk b d)
-  turn-second b d r y l t =
-      turn-first d r y t
-      ∙ (λ i. turnOf (sym (l .last) i) (sym (l .kept) i ++ r) (desk (boardOf (d .lent)) (output (sym (l .buffer) i) 0)))
+  exchange-second : (b d : Between) (r : List ℕ) (y : ExchangeCall) → Level b d → Exchanging d r y
+      → exchangeBy y ≡ exchangeOf (b .last) (b .kept ++ r) (secondDesk b d)
+  exchange-second b d r y l t =
+      exchange-first d r y t
+      ∙ (λ i. exchangeOf (sym (l .last) i) (sym (l .kept) i ++ r) (desk (boardOf (d .lent)) (output (sym (l .buffer) i) 0)))
 
-  module _ (b d : Between) (r : List ℕ) (x y : TurnCall) (l : Level b d) (f : Turn b r x) (g : Turn d r y)
-      (e : admits (next (b .last)) (turnLines (b .kept ++ r)) (boardOf (b .lent)) ≡ true) where
-    told : (toldAll (next (b .last)) (turnLines (b .kept ++ r)) (deskBy (b .lent) 0) .output
-        ≡ toldAll (next (b .last)) (turnLines (b .kept ++ r)) (secondDesk b d) .output)
-        × Alike H a₀ b₀ (toldAll (next (b .last)) (turnLines (b .kept ++ r)) (deskBy (b .lent) 0) .board)
-        (toldAll (next (b .last)) (turnLines (b .kept ++ r)) (secondDesk b d) .board)
+  module _ (b d : Between) (r : List ℕ) (x y : ExchangeCall) (l : Level b d) (f : Exchanging b r x) (g : Exchanging d r y)
+      (e : admits (next (b .last)) (exchangeLines (b .kept ++ r)) (boardOf (b .lent)) ≡ true) where
+    told : (toldAll (next (b .last)) (exchangeLines (b .kept ++ r)) (deskBy (b .lent) 0) .output
+        ≡ toldAll (next (b .last)) (exchangeLines (b .kept ++ r)) (secondDesk b d) .output)
+        × Alike H a₀ b₀ (toldAll (next (b .last)) (exchangeLines (b .kept ++ r)) (deskBy (b .lent) 0) .board)
+        (toldAll (next (b .last)) (exchangeLines (b .kept ++ r)) (secondDesk b d) .board)
     told =
-        desks-same H a₀ b₀ (next (b .last)) (turnLines (b .kept ++ r)) (boardOf (b .lent)) (boardOf (d .lent))
+        desks-same H a₀ b₀ (next (b .last)) (exchangeLines (b .kept ++ r)) (boardOf (b .lent)) (boardOf (d .lent))
         (output (b .lent .buffer) 0) (l .boards) e
 
     -- what is the same of the definition is the same of the answers
-    of-both : {A : Type 0} (p : Turned → A)
-        → p (turnOf (b .last) (b .kept ++ r) (deskBy (b .lent) 0)) ≡ p (turnOf (b .last) (b .kept ++ r) (secondDesk b d))
-        → p (turnedBy x) ≡ p (turnedBy y)
-    of-both p h = ap p (turn-first b r x f) ∙ h ∙ sym (ap p (turn-second b d r y l g))
+    of-both : {A : Type 0} (p : Exchange → A)
+        → p (exchangeOf (b .last) (b .kept ++ r) (deskBy (b .lent) 0)) ≡ p (exchangeOf (b .last) (b .kept ++ r) (secondDesk b d))
+        → p (exchangeBy x) ≡ p (exchangeBy y)
+    of-both p h = ap p (exchange-first b r x f) ∙ h ∙ sym (ap p (exchange-second b d r y l g))
 
     boards-after : Alike H a₀ b₀ (boardOf (x .left)) (boardOf (y .left))
     boards-after =
-        let e = ap (λ (z : Turned). z .desk .board) (turn-first b r x f) in
-        let h = ap (λ (z : Turned). z .desk .board) (turn-second b d r y l g) in
+        let e = ap (λ (z : Exchange). z .desk .board) (exchange-first b r x f) in
+        let h = ap (λ (z : Exchange). z .desk .board) (exchange-second b d r y l g) in
         rw (e, h) (told .1)
 
     buffer-after : x .left .buffer ≡ y .left .buffer
     buffer-after = of-both (λ z. z .desk .output .bytes) (ap (λ (o : Output). o .bytes) (told .0))
 
-    turn-same : SameTurn H (a₀ .memory) (b₀ .memory) x y
-    turn-same =
+    exchange-same : SameExchange H (a₀ .memory) (b₀ .memory) x y
+    exchange-same =
         record {
           place = of-both (λ z. z .desk .output .place) (ap (λ (o : Output). o .place) (told .0));
           last = of-both (λ z. z .last) refl;
@@ -100,21 +100,21 @@ module _ (H : ℕ → Type 0) (a₀ b₀ : Board) where
           left = left-same (x .left) (y .left) buffer-after boards-after;
         }
 
-    level-after : Level (afterTurn x) (afterTurn y)
-    level-after = record { boards = boards-after; buffer = buffer-after; last = turn-same .last; kept = turn-same .kept }
+    level-after : Level (afterExchange x) (afterExchange y)
+    level-after = record { boards = boards-after; buffer = buffer-after; last = exchange-same .last; kept = exchange-same .kept }
 
-  turns-same : (b d : Between) (rs : List (List ℕ)) (xs ys : List TurnCall) → Level b d
-      → AdmittedTurns b rs xs → Turns b rs xs → Turns d rs ys
-      → SameTurns H (a₀ .memory) (b₀ .memory) xs ys × Level (afterAll b xs) (afterAll d ys)
-  turns-same b d [] [] [] l e f g = (tt, l)
-  turns-same b d [] [] (y ∷ ys) l e f g = absurd g
-  turns-same b d [] (x ∷ xs) ys l e f g = absurd f
-  turns-same b d (r ∷ rs) [] ys l e f g = absurd f
-  turns-same b d (r ∷ rs) (x ∷ xs) [] l e f g = absurd g
-  turns-same b d (r ∷ rs) (x ∷ xs) (y ∷ ys) l e f g =
+  exchanges-same : (b d : Between) (rs : List (List ℕ)) (xs ys : List ExchangeCall) → Level b d
+      → AdmittedExchanges b rs xs → Exchanges b rs xs → Exchanges d rs ys
+      → SameExchanges H (a₀ .memory) (b₀ .memory) xs ys × Level (afterAll b xs) (afterAll d ys)
+  exchanges-same b d [] [] [] l e f g = (tt, l)
+  exchanges-same b d [] [] (y ∷ ys) l e f g = absurd g
+  exchanges-same b d [] (x ∷ xs) ys l e f g = absurd f
+  exchanges-same b d (r ∷ rs) [] ys l e f g = absurd f
+  exchanges-same b d (r ∷ rs) (x ∷ xs) [] l e f g = absurd g
+  exchanges-same b d (r ∷ rs) (x ∷ xs) (y ∷ ys) l e f g =
       let h = level-after b d r x y l (f .0) (g .0) (e .0) in
-      let k = turns-same (afterTurn x) (afterTurn y) rs xs ys h (e .1) (f .1) (g .1) in
-      ((turn-same b d r x y l (f .0) (g .0) (e .0), k .0), k .1)
+      let k = exchanges-same (afterExchange x) (afterExchange y) rs xs ys h (e .1) (f .1) (g .1) in
+      ((exchange-same b d r x y l (f .0) (g .0) (e .0), k .0), k .1)
 
   -- ---- the end of input
 
@@ -161,12 +161,12 @@ module _ (H : ℕ → Type 0) (a b : Cpu) (m n : Memory) (p : Apart H (board a m
   start : (o : List ℕ) (i : ℕ) (k : List ℕ) → Level H (board a m) (board b n) (begun a m o i k) (begun b n o i k)
   start o i k = record { boards = alike H (board a m) (board b n) p; buffer = refl; last = refl; kept = refl }
 
-pub confined-turns : ConfinedTurns
-confined-turns H a b m n p o i k rs xs ys e f g =
-    turns-same H (board a m) (board b n) (begun a m o i k) (begun b n o i k) rs xs ys (start H a b m n p o i k) e f g .0
+pub confined-exchanges : ConfinedExchanges
+confined-exchanges H a b m n p o i k rs xs ys e f g =
+    exchanges-same H (board a m) (board b n) (begun a m o i k) (begun b n o i k) rs xs ys (start H a b m n p o i k) e f g .0
 
 pub confined-end : ConfinedEnd
 confined-end H a b m n p o i k rs xs ys e f g x y c d h =
     let l = start H a b m n p o i k in
-    let s = turns-same H (board a m) (board b n) (begun a m o i k) (begun b n o i k) rs xs ys l e f g in
+    let s = exchanges-same H (board a m) (board b n) (begun a m o i k) (begun b n o i k) rs xs ys l e f g in
     end-same H (board a m) (board b n) (afterAll (begun a m o i k) xs) (afterAll (begun b n o i k) ys) x y (s .1) c d h

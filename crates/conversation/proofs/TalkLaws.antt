@@ -11,7 +11,7 @@ use borrow.Author.Tests.{lt-ltb, le-ltb}
 use Rattle.lines.specs.Lines.{frameOf}
 use Rattle.conversation.specs.Conversation.{next}
 use Rattle.conversation.specs.Code.{Desk, toldOf}
-use Rattle.conversation.specs.Blocks.{newlineAt, endsLine, endedLines, isLongRun, Told, told, toldUnless, together, sizeOf, toldAll, lastOf, talked, blockTold}
+use Rattle.conversation.specs.Blocks.{newlineAt, endsLine, endedLines, isLongRun, LineAnswered, lineAnswered, answeredUnless, together, sizeOf, toldAll, lastOf, talked, blockTold}
 use Rattle.conversation.proofs.BlockLaws.{ended-first, ended-none}
 
 true-not-false : true ≡ false → ⊥
@@ -72,15 +72,15 @@ module _ (t : List ℕ) (n : ℕ) (d₀ d : Desk) (last from : ℕ) (begun : Boo
     width : length line ≡ to - from
     width = length-take-le (to - from) (drop from t) (omega (arith, inside, wide))
 
-    module _ (k : ℕ) (d′ : Desk) (w : Bool) (a : told d′ w ≡ toldUnless begun k line d) where
-      waiting : (b : Bool) → told d′ w ≡ cond b (told d true) (told (toldOf k line d) false) → w ≡ true → (b ≡ true) × (d′ ≡ d)
-      waiting true e g = (refl, ap (λ (x : Told). x .desk) e)
-      waiting false e g = absurd (true-not-false (sym g ∙ ap (λ (x : Told). x .waits) e))
+    module _ (k : ℕ) (d′ : Desk) (w : Bool) (a : lineAnswered d′ w ≡ answeredUnless begun k line d) where
+      waiting : (b : Bool) → lineAnswered d′ w ≡ cond b (lineAnswered d true) (lineAnswered (toldOf k line d) false) → w ≡ true → (b ≡ true) × (d′ ≡ d)
+      waiting true e g = (refl, ap (λ (x : LineAnswered). x .desk) e)
+      waiting false e g = absurd (true-not-false (sym g ∙ ap (λ (x : LineAnswered). x .waits) e))
 
-      done : (b : Bool) → told d′ w ≡ cond b (told d true) (told (toldOf k line d) false) → w ≡ false
+      done : (b : Bool) → lineAnswered d′ w ≡ cond b (lineAnswered d true) (lineAnswered (toldOf k line d) false) → w ≡ false
           → (b ≡ false) × (d′ ≡ toldOf k line d)
-      done true e g = absurd (true-not-false (sym (ap (λ (x : Told). x .waits) e) ∙ g))
-      done false e g = (refl, ap (λ (x : Told). x .desk) e)
+      done true e g = absurd (true-not-false (sym (ap (λ (x : LineAnswered). x .waits) e) ∙ g))
+      done false e g = (refl, ap (λ (x : LineAnswered). x .desk) e)
 
       -- the lines that are left, by the test of the first
       left : (b : Bool) → begun && isLongRun (frameOf line) ≡ b

@@ -1,8 +1,8 @@
-use Rattle.conversation.proofs.PartLaws.{rest-within, turn-more, turn-last}
+use Rattle.conversation.proofs.PartLaws.{rest-within, exchange-more, exchange-last}
 use native.Mathlib.Omega.{arith}
 use borrow.Author.Needs.{needs}
-use Rattle.conversation.proofs.turns.converse.Statement.{statement}
-use Rattle.conversation.proofs.turns.converse.Tie as tie
+use Rattle.conversation.proofs.exchanges.converse.Statement.{statement}
+use Rattle.conversation.proofs.exchanges.converse.Tie as tie
 
 least-requires : tie.Need-least-requires
 least-requires c κs = search needs
@@ -38,7 +38,7 @@ same-length-3 c = search needs
 
 returns : tie.Need-returns
 returns c =
-    turn-more _ _ _ _ _ (c .before .before .before .before .before .before .before .before .before .before .before .before .before .before .least .ensures) (c .before .before .before .before .before .before .before .before .before .before .before .before .before .least2 .ensures) _ _ _ _ _ _ (c .before .before .before .before .before .before .tell-block .ensures) (c .if1 .taken)
+    exchange-more _ _ _ _ _ (c .before .before .before .before .before .before .before .before .before .before .before .before .before .before .least .ensures) (c .before .before .before .before .before .before .before .before .before .before .before .before .before .least2 .ensures) _ _ _ _ _ _ (c .before .before .before .before .before .before .tell-block .ensures) (c .if1 .taken)
 
 carry-requires : tie.Need-carry-requires
 carry-requires c κs =
@@ -55,7 +55,7 @@ same-length-6 c = search needs
 
 returns-2 : tie.Need-returns-2
 returns-2 c =
-    turn-last _ _ _ _ _ (c .before .before .before .before .before .before .before .before .before .before .before .before .before .before .before .before .before .before .least .ensures) (c .before .before .before .before .before .before .before .before .before .before .before .before .before .before .before .before .before .least2 .ensures) _ _ _ _ _ _ (c .before .before .before .before .before .before .before .before .before .before .tell-block .ensures) (c .before .before .carry .result) _ (c .before .before .before .before .if1 .left) (c .before .before .carry .ensures)
+    exchange-last _ _ _ _ _ (c .before .before .before .before .before .before .before .before .before .before .before .before .before .before .before .before .before .before .least .ensures) (c .before .before .before .before .before .before .before .before .before .before .before .before .before .before .before .before .before .least2 .ensures) _ _ _ _ _ _ (c .before .before .before .before .before .before .before .before .before .before .tell-block .ensures) (c .before .before .carry .result) _ (c .before .before .before .before .if1 .left) (c .before .before .carry .ensures)
 
 pub converse-spec : {M : Type 1} → statement M
 converse-spec =

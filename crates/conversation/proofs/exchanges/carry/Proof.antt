@@ -1,8 +1,8 @@
 use Prim.Native.Nat.{_-_}
 use Rattle.conversation.proofs.CarryLaws.{Carrying, carrying-none, carrying-more, carrying-cut, carrying-all}
 use borrow.Author.Needs.{needs}
-use Rattle.conversation.proofs.turns.carry.Statement.{statement}
-use Rattle.conversation.proofs.turns.carry.Tie as tie
+use Rattle.conversation.proofs.exchanges.carry.Statement.{statement}
+use Rattle.conversation.proofs.exchanges.carry.Tie as tie
 
 abbrev Inv-loop : tie.InvT-loop
 Inv-loop block₀ from end left k₀ block k = Carrying block₀ from left block k

@@ -1,4 +1,4 @@
-// A turn of the program's loop: between a read and a write.
+// An exchange of the program's loop: between a read and a write.
 use crate::Stream;
 use crate::answers::tell;
 use crate::blocks::tell_block;
@@ -9,10 +9,10 @@ ghost use Rattle.machine.specs.Status.{cpu};
 ghost use Rattle.conversation.specs.Conversation.{next};
 ghost use Rattle.conversation.specs.Code.{deskOf};
 ghost use Rattle.conversation.specs.Blocks.{toldAll};
-ghost use Rattle.conversation.specs.Stream.{turned, turnOf, beginning, lastLine};
+ghost use Rattle.conversation.specs.Stream.{mostCarried, exchange, exchangeOf, beginning, lastLine};
 
 // No frame is as long, so an unended line that is cut there stays bad.
-const MOST_KEPT: usize = 75;
+const MOST_CARRIED: usize = 75;
 
 // Before the first read.
 pub fn begin() -> Stream
@@ -36,12 +36,12 @@ fn least(a: usize, b: usize) -> usize
 // Part of a block to its front: how many bytes, at most as many as are kept.
 fn carry(block: &mut [u8], from: usize, end: usize) -> usize
     requires { ⌜ (from ≤ end) × (end ≤ length (now block)) ⌝ }
-    ensures { λ r. ⌜ take r (now (block .exit)) ≡ take 75 (take (end - from) (drop from (now (block .entry)))) ⌝ }
+    ensures { λ r. ⌜ take r (now (block .exit)) ≡ take mostCarried (take (end - from) (drop from (now (block .entry)))) ⌝ }
 {
     let left = end - from;
     let mut k = 0;
     while k < left {
-        if k == MOST_KEPT {
+        if k == MOST_CARRIED {
             return k;
         }
         block[k] = block[from + k];
@@ -60,7 +60,7 @@ pub fn converse(
     r: &mut [u32; 17],
     out: &mut [u8],
 ) -> Stream
-    ensures { λ x. ⌜ turned (deskOf (cpu (now (r .exit)) (now (q .exit))) (now (m .exit)) (now (out .exit)) (x .place)) (x .last) (drop (x .from) (take (x .end) (now (block .exit)))) (x .more) ≡ turnOf (s .last) (drop (s .from) (take end (now (block .entry)))) (deskOf (cpu (now (r .entry)) (now (q .entry))) (now (m .entry)) (now (out .entry)) 0) ⌝ }
+    ensures { λ x. ⌜ exchange (deskOf (cpu (now (r .exit)) (now (q .exit))) (now (m .exit)) (now (out .exit)) (x .place)) (x .last) (drop (x .from) (take (x .end) (now (block .exit)))) (x .more) ≡ exchangeOf (s .last) (drop (s .from) (take end (now (block .entry)))) (deskOf (cpu (now (r .entry)) (now (q .entry))) (now (m .entry)) (now (out .entry)) 0) ⌝ }
 {
     let e = least(end, block.len());
     let f = least(s.from, e);
