@@ -2,6 +2,7 @@
 //!   crosscheck [STEPS] [SEED]   compares, 1,000,000 steps by default; exit status 1 on any difference
 //!   crosscheck alone [STEPS] [SEED]   our interpreter alone: what the generator reaches
 //!   crosscheck board            reads frames and prints lines with our interpreter, as the board program does
+//!   crosscheck texts            reads parcels and prints what they decode to, as the program disassemble does
 //!   crosscheck frames [SEED]    prints a random conversation for a board program
 mod board;
 mod compare;
@@ -24,7 +25,7 @@ fn check(arguments: &[String]) -> ExitCode {
     let steps = number(arguments.first(), 1_000_000);
     let seed = number(arguments.get(1), 1);
     let (Some(steps), Some(seed)) = (steps, seed) else {
-        eprintln!("usage: crosscheck [STEPS] [SEED] | alone [STEPS] [SEED] | board | frames [SEED]");
+        eprintln!("usage: crosscheck [STEPS] [SEED] | alone [STEPS] [SEED] | board | texts | frames [SEED]");
         return ExitCode::from(2);
     };
     if !link::Proved::LINKED {
@@ -47,16 +48,21 @@ fn check(arguments: &[String]) -> ExitCode {
     ExitCode::from((summary.differences > 0) as u8)
 }
 
+fn ended(mode: &str, result: std::io::Result<()>) -> ExitCode {
+    match result {
+        Ok(()) => ExitCode::SUCCESS,
+        Err(error) => {
+            eprintln!("{mode}: {error}");
+            ExitCode::FAILURE
+        }
+    }
+}
+
 fn main() -> ExitCode {
     let arguments: Vec<String> = std::env::args().skip(1).collect();
     match arguments.first().map(String::as_str) {
-        Some("board") => match board::serve() {
-            Ok(()) => ExitCode::SUCCESS,
-            Err(error) => {
-                eprintln!("board: {error}");
-                ExitCode::FAILURE
-            }
-        },
+        Some("board") => ended("board", board::serve()),
+        Some("texts") => ended("texts", texts::tell()),
         Some("alone") => {
             let (steps, seed) = (number(arguments.get(1), 1_000_000), number(arguments.get(2), 1));
             compare::alone(steps.unwrap_or(0), seed.unwrap_or(1)).tally.print();

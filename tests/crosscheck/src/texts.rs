@@ -4,6 +4,7 @@ use crate::link;
 use crate::machine::decode::{decode, following, Act, Decoded, Instruction, Monadic, Operand, PREFIX};
 use crate::machine::decode::{FIVE_ROWS, MONADIC_ROWS, NILADIC_ROWS, STACK_ROWS, THREE_ROWS};
 use crate::random::Random;
+use std::io::Write;
 
 /// How often each first parcel is tried, with and without a prefix, before other parcels each time.
 const ROUNDS: u32 = 8;
@@ -255,6 +256,28 @@ fn random_block(random: &mut Random) -> (Block, u32) {
         _ => 3 + prefix,
     };
     (block, if random.chance(5) { random.word() >> random.below(32) } else { length })
+}
+
+/// What a line of parcels decodes to, as the program disassemble prints it; `-` is no parcel.
+fn told(line: &str) -> Option<String> {
+    let digits = line.as_bytes().chunks(4).filter(|_| line != "-");
+    let parcels = digits.map(|four| u16::from_str_radix(std::str::from_utf8(four).ok()?, 16).ok());
+    let words = match expected(&parcels.collect::<Option<Vec<u16>>>()?) {
+        Ok(block) => [&[0], &block[..]].concat(),
+        Err(number) => vec![number],
+    };
+    Some(words.iter().map(|word| format!("{word:x}")).collect::<Vec<_>>().join(" "))
+}
+
+/// Reads texts, one a line, and prints what each decodes to; a line that is no text is an error.
+pub fn tell() -> std::io::Result<()> {
+    let input = std::io::read_to_string(std::io::stdin())?;
+    let lines = input.lines().map(|line| told(line).ok_or(line));
+    let answers: Result<Vec<String>, &str> = lines.collect();
+    match answers {
+        Ok(answers) => std::io::stdout().write_all((answers.join("\n") + "\n").as_bytes()),
+        Err(line) => Err(std::io::Error::other(format!("no parcels: {line}"))),
+    }
 }
 
 /// All first parcels, then random blocks.
