@@ -1,5 +1,5 @@
 #!/usr/bin/env python3
-"""Writes the inputs of bench/run: stack.in, memory.in and calls.in beside this file.
+"""inputs.py [FOLDER]: writes the inputs of bench/run, stack.in, memory.in and calls.in, beside this file or into the folder.
 
 Each is a loop without end at user level with virtual addressing and the stack cache on; the budget of its one run ends it.
     stack   sums over words of the stack, all of them in the stack cache
@@ -82,5 +82,5 @@ def calls():
 
 if __name__ == '__main__':
     for make in (stack, memory, calls):
-        with open(os.path.join(HERE, make.__name__ + '.in'), 'w') as f:
+        with open(os.path.join(sys.argv[1] if len(sys.argv) > 1 else HERE, make.__name__ + '.in'), 'w') as f:
             f.write(str(make()))
