@@ -1,6 +1,7 @@
 #!/usr/bin/env python3
 """Checks the names in docs/CLAIMS.md against the tree: what is cited exists, and every must-fail edit and every witness is
-cited. Prints what is missing and ends with status 1, else prints one line.
+cited; and the paths and functions that the other documents name (OTHERS). Prints what is missing and ends with status 1, else
+prints one line.
 
 Of what stands in backquotes: a path exists, `crate/edit` is an edit, `crate::module::function` a function of that module,
 `Record.field` and any other name a definition, theorem, field, function or type; of an expression, the names in it that are
@@ -43,6 +44,7 @@ ANTT = {path: antt_names(text) for path, text in read(CRATES.glob('*/[sp]*/**/*.
 RATTLE = {path: rattle_names(text) for path, text in read(CRATES.glob('*/src/**/*.rt')).items()}
 HEADER = set(re.findall(r'\b(hobbit_\w+)\(', (ROOT / 'include' / 'hobbit.h').read_text(encoding='utf-8')))
 LIBRARY = {'List', 'requires'}          # of the kit: names and words that the claims use
+OTHERS = 'README.md', 'CONTRIBUTING.md', 'docs/ARCHITECTURE.md', 'docs/DECISIONS.md', 'bench/RESULTS.md'
 FOLDERS = {'specs/', 'src/', 'proofs/', 'CRATE/must-fail'}      # of any crate
 KNOWN = set().union(*ANTT.values(), *RATTLE.values()) | HEADER | LIBRARY | {path.name for path in CRATES.iterdir()}
 
@@ -88,6 +90,14 @@ def missing(name):
     return [word for word in words if re.search(r'[a-z][A-Z]|^[A-Z]|-', word) and word not in KNOWN]
 
 
+def misplaced(document):
+    """Paths into the tree and functions that a document names and that are not there; capitals stand for any name."""
+    found = re.findall(r'`([^`\s]+)`', (ROOT / document).read_text(encoding='utf-8'))
+    named = [name for name in found if re.fullmatch(r'\w+(::\w+)+|[\w.]+(/[\w.]+)+', name) and not re.search(r'\b[A-Z]+/', name)]
+    return ['%s: in %s, not in the tree' % (part, document)
+            for name in named if not name.startswith('target/') for part in missing(name)]
+
+
 def comments(text):
     """The comments of a file, those of several lines as one."""
     said = ''
@@ -101,6 +111,7 @@ def main():
     claims = (ROOT / 'docs' / 'CLAIMS.md').read_text(encoding='utf-8')
     cited = re.findall(r'`([^`]+)`', claims)
     wrong = ['%s: not in the tree' % part for name in cited for part in missing(name)]
+    wrong += [row for document in OTHERS for row in misplaced(document)]
     # names directly before a path
     for names, path in re.findall(r'((?:`[^`]+`(?:,? and |, )?)+) \(`([^`]+\.antt|[^`]+/specs)`', claims):
         for name in re.findall(r"`([\w'-]+)`", names):
@@ -126,7 +137,8 @@ def main():
         beside = [line for line in claims.splitlines() if '`%s`' % path.name in line]
         wrong += ['%s of %s: witnesses that no claim names' % (name, path.name)
                   for name in checked if not any('`%s`' % name in line for line in beside)]
-    print('\n'.join(dict.fromkeys(wrong)) or 'names: %d names of docs/CLAIMS.md are in the tree' % len(set(cited)))
+    print('\n'.join(dict.fromkeys(wrong)) or 'names: %d names of docs/CLAIMS.md are in the tree, and those of %d other documents'
+          % (len(set(cited)), len(OTHERS)))
     return 1 if wrong else 0
 
 
