@@ -5,8 +5,8 @@ repeated   LINES (10) or more equal lines in two places of specs/, src/ and the 
            thin lines (a bracket, a word of three letters) don't count. Proof.antt files are left out: their needs have a form
            of their own. ALLOWED names the runs that may stand, each with its reason.
 uncited    a name of specs/*.antt or proofs/*.antt that stands nowhere but in its own definition: not in its file, not in a
-           file that imports its module, not in docs/ or tests/. Imports alone don't count. Fields and constructors aren't
-           looked at. READ names files that are for readers alone.
+           file that imports its module, not in tests/, not in backquotes in docs/. Imports alone don't count. Fields and
+           constructors aren't looked at. READ names files that are for readers alone.
 unused     an imported name that stands nowhere else in its file; `do` uses _>>=_.
 """
 import re
@@ -38,7 +38,7 @@ COMMENT = {'.rt': '//', '.antt': '--'}
 def tokens(text):
     """Words between spaces, brackets and dots, operators among them, and in these the plain words, as in `&name`."""
     found = re.findall(r'\[\]|[^\s(){}\[\],;.⌜⌝"`]+', text)
-    return found + [word for name in found for word in re.findall(r'\w+', name) if word != name]
+    return found + [word for name in found for word in re.findall(r"[\w·'-]+", name) if word != name]
 
 
 class File:
@@ -54,12 +54,22 @@ class File:
             elif line:
                 self.code.append((number, line))
         self.words = {word for _, line in self.code for word in tokens(line)}
-        self.modules = {found for _, line in self.imports for found in MODULE.findall(line)}
 
     def module(self):
         """Crate, folder and name, as imports name it."""
         parts = self.path.with_suffix('').parts
         return parts if len(parts) == 3 else None
+
+    def cited(self):
+        """Of the modules that the file imports, by module: the names that it uses, or all its words where it imports the whole."""
+        found = defaultdict(set)
+        for _, text in self.imports:
+            module = MODULE.search(text)
+            if module and '{' in text:
+                found[module.groups()].update(name for name, here in imported(text) if stands(here, self.words))
+            elif module:
+                found[module.groups()] |= self.words
+        return found
 
 
 def tree():
@@ -119,25 +129,27 @@ def definitions(f):
 
 def stands(name, words):
     """Whether a name is among the words, an operator by its parts, and a list of witnesses (tests/names.py) by its own name."""
-    if name.endswith('-checked'):
-        return name.removesuffix('-checked') in words
     operator = [part for part in name.split('_') if part]
-    return name in words or ('_' in name and all(part in words for part in operator)) or (name == '_>>=_' and 'do' in words)
+    return (name in words or (name.endswith('-checked') and name.removesuffix('-checked') in words)
+            or ('_' in name and all(part in words for part in operator)) or (name == '_>>=_' and 'do' in words))
 
 
 def uncited(files):
     said = set()
-    for path in [*ROOT.glob('docs/**/*.md'), *ROOT.glob('*.md'), *ROOT.glob('tests/*.py'), *CRATES.glob('*/must-fail/*.edit')]:
+    for path in [*ROOT.glob('docs/*.md'), *ROOT.glob('*.md')]:
+        for quoted in re.findall(r'`([^`]+)`', path.read_text(encoding='utf-8')):
+            said.update(tokens(quoted))
+    for path in [*ROOT.glob('tests/*.py'), *CRATES.glob('*/must-fail/*.edit')]:
         said.update(tokens(path.read_text(encoding='utf-8')))
-    importers = defaultdict(list)
+    cited = defaultdict(set)
     for f in files:
-        for module in f.modules:
-            importers[module].append(f)
+        for module, names in f.cited().items():
+            cited[module] |= names
     rows = []
     for f in (f for f in files if f.module() and f.path.suffix == '.antt' and f.name not in READ):
         for name, first, end in definitions(f):
             own = {word for number, line in f.code if not first <= number < end for word in tokens(line)}
-            if not any(stands(name, words) for words in (own, said, *(g.words for g in importers[f.module()]))):
+            if not any(stands(name, words) for words in (own, said, cited[f.module()])):
                 rows.append('uncited: %s:%d %s' % (f.name, first, name))
     return rows
 
@@ -145,11 +157,12 @@ def uncited(files):
 # ---- (c) imports that a file does not use
 
 def imported(text):
-    """The names that an import brings in, as the file calls them."""
+    """The names that an import brings in, each with what the file calls it."""
     path = re.sub(r'^(pub |ghost )*use ', '', text).rstrip(';')
-    listed = re.search(r'\{(.*?)\}?$', path)
+    listed = re.search(r'\{(.*)\}$', path)
     names = listed.group(1).split(',') if listed else [re.split(r'::|\.', path)[-1]]
-    return [name.split(' as ')[-1].strip() for name in names if name.strip()]
+    pairs = [name.strip().split(' as ') for name in names]
+    return [(pair[0], pair[-1]) for pair in pairs]
 
 
 def unused(files):
@@ -158,8 +171,7 @@ def unused(files):
         for number, text in f.imports:
             if text.startswith('pub '):
                 continue
-            rows += ['unused: %s:%d %s' % (f.name, number, name)
-                     for name in imported(text) if not stands(name, f.words)]
+            rows += ['unused: %s:%d %s' % (f.name, number, name) for name, here in imported(text) if not stands(here, f.words)]
     return rows
 
 
