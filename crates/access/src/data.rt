@@ -14,17 +14,19 @@ ghost use Rattle.word.specs.declared.Width.the-variants as width;
 ghost use Rattle.memory.specs.Answers.{answerOf};
 ghost use Rattle.program.specs.Access.{gave, fetch as fetches, read as reads, write as writes, probe as probes};
 ghost use Rattle.program.specs.Program.{interpret};
-ghost use Rattle.program.specs.Journal.{journaled, logging};
-ghost use Rattle.machine.specs.Status.{cpu, regime, kernelRegime};
+ghost use Rattle.program.specs.Journal.{logging};
+ghost use Rattle.program.specs.Contracts.{Answers, AnswersReadOnly, Interprets};
+ghost use Rattle.machine.specs.Status.{regime, kernelRegime};
 ghost use mathlib.Core.List.{[]};
 ghost use Rattle.handler.specs.Followed.{onlyMemory};
 ghost use Rattle.access.specs.Parts.{replied};
 ghost use Rattle.access.specs.Data.{readCached, readData, writeCached, writeData};
 ghost use Rattle.access.specs.Code.{wrote};
+ghost use Rattle.access.specs.Contracts.{entryCpu, exitCpu};
 
 // An operand in the stack cache.
 fn read_cached(q: &[[u32; 4]; 16], r: &[u32; 17], w: Width, a: u32) -> u64
-    ensures { λ x. ⌜ gave (replied (cpu (now (r .entry)) (now (q .entry))) a (answerOf x)) (onlyMemory []) ≡ interpret logging (readCached (cpu (now (r .entry)) (now (q .entry))) w a) (onlyMemory []) ⌝ }
+    ensures { λ x. ⌜ gave (replied (entryCpu q r) a (answerOf x)) (onlyMemory []) ≡ interpret logging (readCached (entryCpu q r) w a) (onlyMemory []) ⌝ }
 {
     if aligned(w, a) {
         good(machine::cache::cache_read(w, q, place(is_little(r), w, a)))
@@ -42,7 +44,7 @@ pub fn read_data(
     w: Width,
     a: u32,
 ) -> u64
-    ensures { λ x. ⌜ gave (replied (cpu (now (r .entry)) (now (q .entry))) a (answerOf x)) (journaled (now (m .exit)) (now (journal .exit))) ≡ interpret logging (readData (cpu (now (r .entry)) (now (q .entry))) w a) (journaled (now (m .entry)) (now (journal .entry))) ⌝ }
+    ensures { λ x. ⌜ Interprets (replied (entryCpu q r) a (answerOf x)) m journal (readData (entryCpu q r) w a) ⌝ }
 {
     if cached(r, a) {
         read_cached(q, r, w, a)
@@ -53,7 +55,7 @@ pub fn read_data(
 }
 
 fn write_cached(q: &mut [[u32; 4]; 16], r: &[u32; 17], w: Width, a: u32, v: u32) -> u64
-    ensures { λ x. ⌜ gave (wrote (cpu (now (r .entry)) (now (q .exit))) a (answerOf x)) (onlyMemory []) ≡ interpret logging (writeCached (cpu (now (r .entry)) (now (q .entry))) w a v) (onlyMemory []) ⌝ }
+    ensures { λ x. ⌜ gave (wrote (exitCpu q r) a (answerOf x)) (onlyMemory []) ≡ interpret logging (writeCached (entryCpu q r) w a v) (onlyMemory []) ⌝ }
 {
     if aligned(w, a) {
         machine::cache::cache_write(w, q, place(is_little(r), w, a), v);
@@ -73,7 +75,7 @@ pub fn write_data(
     a: u32,
     v: u32,
 ) -> u64
-    ensures { λ x. ⌜ gave (wrote (cpu (now (r .entry)) (now (q .exit))) a (answerOf x)) (journaled (now (m .exit)) (now (journal .exit))) ≡ interpret logging (writeData (cpu (now (r .entry)) (now (q .entry))) w a v) (journaled (now (m .entry)) (now (journal .entry))) ⌝ }
+    ensures { λ x. ⌜ Interprets (wrote (exitCpu q r) a (answerOf x)) m journal (writeData (entryCpu q r) w a v) ⌝ }
 {
     if cached(r, a) {
         write_cached(q, r, w, a, v)
@@ -85,27 +87,27 @@ pub fn write_data(
 
 // A word of a frame or a vector, at kernel level.
 pub fn read_frame(m: &mut [u8], journal: &mut [u64; 201], r: &[u32; 17], a: u32) -> u64
-    ensures { λ x. ⌜ gave (answerOf x) (journaled (now (m .exit)) (now (journal .exit))) ≡ logging (reads (kernelRegime (now (r .entry))) width.Word a) (journaled (now (m .entry)) (now (journal .entry))) ⌝ }
+    ensures { λ x. ⌜ Answers x m journal (reads (kernelRegime (now (r .entry))) width.Word a) ⌝ }
 {
     handler::accesses::read(m, journal, Width::Word, r[9], false, is_virtual(r), a)
 }
 
 pub fn write_frame(m: &mut [u8], journal: &mut [u64; 201], r: &[u32; 17], a: u32, v: u32) -> u64
-    ensures { λ x. ⌜ gave (answerOf x) (journaled (now (m .exit)) (now (journal .exit))) ≡ logging (writes (kernelRegime (now (r .entry))) width.Word a v) (journaled (now (m .entry)) (now (journal .entry))) ⌝ }
+    ensures { λ x. ⌜ Answers x m journal (writes (kernelRegime (now (r .entry))) width.Word a v) ⌝ }
 {
     handler::accesses::write(m, journal, Width::Word, r[9], false, is_virtual(r), a, v)
 }
 
 // A parcel of text.
 pub fn fetch_parcel(m: &mut [u8], journal: &mut [u64; 201], r: &[u32; 17], a: u32) -> u64
-    ensures { λ x. ⌜ gave (answerOf x) (journaled (now (m .exit)) (now (journal .exit))) ≡ logging (fetches (regime (now (r .entry))) a) (journaled (now (m .entry)) (now (journal .entry))) ⌝ }
+    ensures { λ x. ⌜ Answers x m journal (fetches (regime (now (r .entry))) a) ⌝ }
 {
     handler::accesses::fetch(m, journal, r[9], is_user(r), is_virtual(r), a)
 }
 
 // Whether stores at an address are valid at the current level.
 pub fn check_store(m: &[u8], r: &[u32; 17], a: u32) -> u64
-    ensures { λ x. ⌜ gave (answerOf x) (onlyMemory (now (m .entry))) ≡ logging (probes (regime (now (r .entry))) a) (onlyMemory (now (m .entry))) ⌝ }
+    ensures { λ x. ⌜ AnswersReadOnly x m [] (probes (regime (now (r .entry))) a) ⌝ }
 {
     handler::accesses::probe(m, r[9], is_user(r), is_virtual(r), a)
 }

@@ -5,17 +5,13 @@ use bits::low_half;
 use isa::Text;
 use word::sums::plus;
 ghost use mathlib.Core.Path.{_≡_};
-ghost use Prim.Native.Nat.{_+_, _*_, _/_, _%_};
+ghost use Prim.Native.Nat.{_+_, _*_, _%_};
 ghost use Rattle.memory.specs.Answers.{answerOf};
-ghost use Rattle.program.specs.Access.{gave};
-ghost use Rattle.program.specs.Program.{interpret};
-ghost use Rattle.program.specs.Journal.{journaled, logging};
-ghost use Rattle.machine.specs.Cache.{Cache};
-ghost use Rattle.machine.specs.Status.{cpu};
 ghost use Rattle.isa.specs.Decode.{textOf, cpuPrefix};
 ghost use mathlib.Core.List.{[], _∷_};
 ghost use Rattle.access.specs.Text.{following, fetchParcels, fetchAfter, fetchPrefixed, fetchText};
 ghost use Rattle.access.specs.Code.{joinedOut, fetchTwo, listed, operandsOut, textOut};
+ghost use Rattle.access.specs.Contracts.{Fetches};
 
 // The two words after a first parcel, as far as it calls for them, and the exception that stopped the fetch with 2^32
 // added; 0 is no exception.
@@ -33,7 +29,7 @@ pub struct Fetched {
 
 // Two parcels as a word, the first one high.
 fn fetch_two(m: &mut [u8], journal: &mut [u64; 201], r: &[u32; 17], a: u32) -> u64
-    ensures { λ x. ⌜ ((q : Cache) → gave (joinedOut (cpu (now (r .entry)) q) (answerOf x)) (journaled (now (m .exit)) (now (journal .exit))) ≡ interpret logging (fetchTwo (cpu (now (r .entry)) q) a) (journaled (now (m .entry)) (now (journal .entry)))) ⌝ }
+    ensures { λ x. ⌜ Fetches (λ c. joinedOut c (answerOf x)) m journal r (λ c. fetchTwo c a) ⌝ }
 {
     let x = fetch_parcel(m, journal, r, a);
     if 0x1_0000_0000 <= x {
@@ -48,7 +44,7 @@ fn fetch_two(m: &mut [u8], journal: &mut [u64; 201], r: &[u32; 17], a: u32) -> u
 
 // The parcels after p, which stand from a on.
 fn fetch_operands(m: &mut [u8], journal: &mut [u64; 201], r: &[u32; 17], a: u32, p: u16) -> Operands
-    ensures { λ x. ⌜ ((q : Cache) → gave (operandsOut (cpu (now (r .entry)) q) p x) (journaled (now (m .exit)) (now (journal .exit))) ≡ interpret logging (fetchParcels (cpu (now (r .entry)) q) a (following p)) (journaled (now (m .entry)) (now (journal .entry)))) ⌝ }
+    ensures { λ x. ⌜ Fetches (λ c. operandsOut c p x) m journal r (λ c. fetchParcels c a (following p)) ⌝ }
 {
     if p < 0x8000 {
         return Operands {
@@ -190,7 +186,7 @@ fn prefixed(p: u16, o: Operands) -> Text
 
 // The instruction whose first parcel p stands at PC.
 fn fetch_after(m: &mut [u8], journal: &mut [u64; 201], r: &[u32; 17], p: u16) -> Fetched
-    ensures { λ x. ⌜ ((q : Cache) → gave (textOut (cpu (now (r .entry)) q) x) (journaled (now (m .exit)) (now (journal .exit))) ≡ interpret logging (fetchAfter (cpu (now (r .entry)) q) p) (journaled (now (m .entry)) (now (journal .entry)))) ⌝ }
+    ensures { λ x. ⌜ Fetches (λ c. textOut c x) m journal r (λ c. fetchAfter c p) ⌝ }
 {
     let o = fetch_operands(m, journal, r, plus(r[5], 2), p);
     Fetched {
@@ -200,7 +196,7 @@ fn fetch_after(m: &mut [u8], journal: &mut [u64; 201], r: &[u32; 17], p: u16) ->
 }
 
 fn fetch_prefixed(m: &mut [u8], journal: &mut [u64; 201], r: &[u32; 17]) -> Fetched
-    ensures { λ x. ⌜ ((q : Cache) → gave (textOut (cpu (now (r .entry)) q) x) (journaled (now (m .exit)) (now (journal .exit))) ≡ interpret logging (fetchPrefixed (cpu (now (r .entry)) q)) (journaled (now (m .entry)) (now (journal .entry)))) ⌝ }
+    ensures { λ x. ⌜ Fetches (λ c. textOut c x) m journal r fetchPrefixed ⌝ }
 {
     let x = fetch_parcel(m, journal, r, plus(r[5], 2));
     if 0x1_0000_0000 <= x {
@@ -219,7 +215,7 @@ fn fetch_prefixed(m: &mut [u8], journal: &mut [u64; 201], r: &[u32; 17]) -> Fetc
 
 // All parcels that the instruction at PC calls for.
 pub fn fetch_text(m: &mut [u8], journal: &mut [u64; 201], r: &[u32; 17]) -> Fetched
-    ensures { λ x. ⌜ ((q : Cache) → gave (textOut (cpu (now (r .entry)) q) x) (journaled (now (m .exit)) (now (journal .exit))) ≡ interpret logging (fetchText (cpu (now (r .entry)) q)) (journaled (now (m .entry)) (now (journal .entry)))) ⌝ }
+    ensures { λ x. ⌜ Fetches (λ c. textOut c x) m journal r fetchText ⌝ }
 {
     let x = fetch_parcel(m, journal, r, r[5]);
     if 0x1_0000_0000 <= x {

@@ -1,14 +1,19 @@
 -- An attempt at the instruction at PC, with or without its event sequence, and what the code's number says of it.
 -- Assumes nothing.
 use Prim.Native.Nat.{ℕ}
+use denote.Ref.{now}
 use mathlib.Core.Bool.{Bool, true, false, cond}
 use lib.Dec.{ltb}
-use Rattle.memory.specs.Answers.{Answer, got, bad}
+use Rattle.memory.specs.Answers.{Answer, got, bad, answerOf}
+use Rattle.memory.specs.Bytes.{Memory}
 use Rattle.program.specs.Program.{Program}
+use Rattle.program.specs.Journal.{Journal}
+use Rattle.program.specs.Contracts.{Lent, Interprets}
 use Rattle.machine.specs.Registers.{Bank}
 use Rattle.machine.specs.Cache.{Cache}
 use Rattle.machine.specs.Status.{Cpu, cpu}
 use Rattle.access.specs.Parts.{Out, ok, stop, done, _>>=_}
+use Rattle.access.specs.Contracts.{entryCpu}
 use Rattle.pending.specs.Traces.{tracedFrom}
 use Rattle.step.specs.Step.{Met, Acted, finished, sequenced, act, fetchInstruction}
 use Rattle.run.specs.Run.{Tried, tried, fetched, tryActed}
@@ -62,3 +67,7 @@ actedOut x b q = answered actedAs x b q
 
 abbrev pub triedOut : Answer → Bank → Cache → Out Tried
 triedOut x b q = answered triedAs x b q
+
+-- ---- what contracts say of an attempt: x is what f comes to, and the machine is left as f leaves it, also by an exception
+abbrev pub Attempts : ℕ → Lent Memory → Lent Journal → Lent Cache → Lent Bank → (Cpu → Program (Out Attempted)) → Type 0
+Attempts x m j q r f = Interprets (attemptedOut (answerOf x) (now (r .exit)) (now (q .exit))) m j (f (entryCpu q r))

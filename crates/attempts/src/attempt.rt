@@ -15,18 +15,13 @@ use rows::forms::action_of;
 ghost use mathlib.Core.Path.{_≡_};
 ghost use Prim.Native.Nat.{ℕ, _<_};
 ghost use Rattle.isa.specs.declared.MonadicMode.{MonadicMode};
-ghost use Rattle.memory.specs.Answers.{answerOf};
-ghost use Rattle.program.specs.Access.{gave};
-ghost use Rattle.program.specs.Program.{interpret};
-ghost use Rattle.program.specs.Journal.{journaled, logging};
-ghost use Rattle.machine.specs.Status.{cpu};
 ghost use Rattle.access.specs.Parts.{onward};
 ghost use Rattle.rows.specs.Rows.{actionOf};
 ghost use Rattle.pending.specs.Traces.{tracedFrom};
 ghost use Rattle.exec.specs.Execute.{oneOperand, traced as tracedOf};
 ghost use Rattle.step.specs.Step.{meets, vectored, met};
 ghost use Rattle.run.specs.Run.{isKcall};
-ghost use Rattle.attempts.specs.Code.{actOf, attemptOf, attemptedOut};
+ghost use Rattle.attempts.specs.Code.{actOf, attemptOf, Attempts};
 
 fn kcalls(o: Monadic) -> bool
     ensures { λ x. ⌜ ((k : MonadicMode) (v : ℕ) → x ≡ isKcall (oneOperand o k v)) ⌝ }
@@ -73,7 +68,7 @@ fn act_on(
     confined: bool,
     i: Instruction,
 ) -> u64
-    ensures { λ x. ⌜ gave (attemptedOut (answerOf x) (now (r .exit)) (now (q .exit))) (journaled (now (m .exit)) (now (journal .exit))) ≡ interpret logging (actOf confined (cpu (now (r .entry)) (now (q .entry))) (meets i)) (journaled (now (m .entry)) (now (journal .entry))) ⌝ }
+    ensures { λ x. ⌜ Attempts x m journal q r (λ c. actOf confined c (meets i)) ⌝ }
 {
     let a = action_of(i);
     let n = length_of(i);
@@ -98,7 +93,7 @@ fn act_unimplemented(
     confined: bool,
     vector: u32,
 ) -> u64
-    ensures { λ x. ⌜ gave (attemptedOut (answerOf x) (now (r .exit)) (now (q .exit))) (journaled (now (m .exit)) (now (journal .exit))) ≡ interpret logging (actOf confined (cpu (now (r .entry)) (now (q .entry))) (vectored vector)) (journaled (now (m .entry)) (now (journal .entry))) ⌝ }
+    ensures { λ x. ⌜ Attempts x m journal q r (λ c. actOf confined c (vectored vector)) ⌝ }
 {
     if confined {
         return 0x21;
@@ -119,7 +114,7 @@ fn act_on_answer(
     confined: bool,
     a: Answer,
 ) -> u64
-    ensures { λ x. ⌜ gave (attemptedOut (answerOf x) (now (r .exit)) (now (q .exit))) (journaled (now (m .exit)) (now (journal .exit))) ≡ interpret logging (onward (actOf confined (cpu (now (r .entry)) (now (q .entry)))) (met (cpu (now (r .entry)) (now (q .entry))) a)) (journaled (now (m .entry)) (now (journal .entry))) ⌝ }
+    ensures { λ x. ⌜ Attempts x m journal q r (λ c. onward (actOf confined c) (met c a)) ⌝ }
 {
     match a {
         Answer::Is(i) => act_on(m, journal, q, r, confined, i),
@@ -138,7 +133,7 @@ pub fn attempt(
     r: &mut [u32; 17],
     confined: bool,
 ) -> u64
-    ensures { λ x. ⌜ gave (attemptedOut (answerOf x) (now (r .exit)) (now (q .exit))) (journaled (now (m .exit)) (now (journal .exit))) ≡ interpret logging (attemptOf confined (cpu (now (r .entry)) (now (q .entry)))) (journaled (now (m .entry)) (now (journal .entry))) ⌝ }
+    ensures { λ x. ⌜ Attempts x m journal q r (λ c. attemptOf confined c) ⌝ }
 {
     let f = fetch_text(m, journal, r);
     if f.fault != 0 {

@@ -7,13 +7,7 @@ use isa::Wide;
 use rows::Action;
 use singles::monadics::execute_monadic;
 use singles::niladics::execute_niladic;
-ghost use mathlib.Core.Path.{_≡_};
-ghost use Rattle.memory.specs.Answers.{answerOf};
-ghost use Rattle.program.specs.Access.{gave};
-ghost use Rattle.program.specs.Program.{interpret};
-ghost use Rattle.program.specs.Journal.{journaled, logging};
-ghost use Rattle.machine.specs.Status.{cpu};
-ghost use Rattle.access.specs.Code.{ended};
+ghost use Rattle.access.specs.Contracts.{Ends};
 ghost use Rattle.rows.specs.Rows.{actionOf};
 ghost use Rattle.exec.specs.Execute.{twoOperands, executeNormal};
 
@@ -29,7 +23,7 @@ fn execute_two(
     s: Operand,
     d: Operand,
 ) -> u64
-    ensures { λ x. ⌜ gave (ended (answerOf x) (now (r .exit)) (now (q .exit))) (journaled (now (m .exit)) (now (journal .exit))) ≡ interpret logging (executeNormal (cpu (now (r .entry)) (now (q .entry))) n (twoOperands wide task s d)) (journaled (now (m .entry)) (now (journal .entry))) ⌝ }
+    ensures { λ x. ⌜ Ends x m journal q r (λ c. executeNormal c n (twoOperands wide task s d)) ⌝ }
 {
     let x = execute_dyadic(m, journal, q, r, wide, task, s, d);
     if 0x1_0000_0000 <= x {
@@ -48,7 +42,7 @@ pub fn execute(
     n: u32,
     a: Action,
 ) -> u64
-    ensures { λ x. ⌜ gave (ended (answerOf x) (now (r .exit)) (now (q .exit))) (journaled (now (m .exit)) (now (journal .exit))) ≡ interpret logging (executeNormal (cpu (now (r .entry)) (now (q .entry))) n (actionOf a)) (journaled (now (m .entry)) (now (journal .entry))) ⌝ }
+    ensures { λ x. ⌜ Ends x m journal q r (λ c. executeNormal c n (actionOf a)) ⌝ }
 {
     match a {
         Action::Two(wide, task, s, d) => execute_two(m, journal, q, r, n, wide, task, s, d),

@@ -4,15 +4,15 @@ use machine::status::sp_current;
 use word::sums::plus;
 ghost use mathlib.Core.Path.{_≡_};
 ghost use mathlib.Core.List.{[]};
-ghost use Rattle.machine.specs.Cache.{Cache};
 ghost use Rattle.machine.specs.Status.{cpu};
+ghost use Rattle.access.specs.Contracts.{Becomes};
 ghost use Rattle.exec.specs.Operands.{stackAddress};
 ghost use Rattle.exec.specs.Control.{jumped as jumpedOf, nextPc, advanced as advancedOf, withCsp, released as releasedOf};
 ghost use Rattle.exec.specs.Frames.{restoredCsp};
 
 // PC at an address, a multiple of two.
 pub fn jumped(b: &mut [u32; 17], a: u32)
-    ensures { λ r. ⌜ ((q : Cache) → cpu (now (b .exit)) q ≡ jumpedOf (cpu (now (b .entry)) q) a) ⌝ }
+    ensures { λ r. ⌜ Becomes b (λ c. jumpedOf c a) ⌝ }
 {
     b[5] = a / 2 * 2;
 }
@@ -25,14 +25,14 @@ pub fn next_pc(b: &[u32; 17], n: u32) -> u32
 }
 
 pub fn advanced(b: &mut [u32; 17], n: u32)
-    ensures { λ r. ⌜ ((q : Cache) → cpu (now (b .exit)) q ≡ advancedOf (cpu (now (b .entry)) q) n) ⌝ }
+    ensures { λ r. ⌜ Becomes b (λ c. advancedOf c n) ⌝ }
 {
     b[5] = next_pc(b, n);
 }
 
 // The current stack pointer and its shadow.
 pub fn with_csp(b: &mut [u32; 17], v: u32)
-    ensures { λ r. ⌜ ((q : Cache) → cpu (now (b .exit)) q ≡ withCsp (cpu (now (b .entry)) q) v) ⌝ }
+    ensures { λ r. ⌜ Becomes b (λ c. withCsp c v) ⌝ }
 {
     if sp_current(b) {
         b[8] = v;
@@ -45,7 +45,7 @@ pub fn with_csp(b: &mut [u32; 17], v: u32)
 
 // The current stack pointer from its shadow, before an event.
 pub fn restored_csp(b: &mut [u32; 17])
-    ensures { λ r. ⌜ ((q : Cache) → cpu (now (b .exit)) q ≡ restoredCsp (cpu (now (b .entry)) q)) ⌝ }
+    ensures { λ r. ⌜ Becomes b restoredCsp ⌝ }
 {
     if sp_current(b) {
         b[8] = b[7];
@@ -67,7 +67,7 @@ pub fn stack_address(b: &[u32; 17], v: u32) -> u32
 
 // POPN and RETURN: the stack pointer goes up by v, and MSP with it where it must.
 pub fn released(b: &mut [u32; 17], v: u32)
-    ensures { λ r. ⌜ ((q : Cache) → cpu (now (b .exit)) q ≡ releasedOf (cpu (now (b .entry)) q) v) ⌝ }
+    ensures { λ r. ⌜ Becomes b (λ c. releasedOf c v) ⌝ }
 {
     let a = stack_address(b, v) / 16 * 16;
     if sp_current(b) & (!cache_on(b) | (b[4] < a)) {

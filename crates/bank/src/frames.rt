@@ -4,18 +4,17 @@ use machine::registers::kept;
 use machine::status::sp_current;
 use word::sums::minus;
 use word::sums::plus;
-ghost use mathlib.Core.Path.{_≡_};
 ghost use Prim.Native.Nat.{_*_, _/_, _^_};
-ghost use Rattle.machine.specs.Registers.{word, isp, psw, shad};
-ghost use Rattle.machine.specs.Cache.{Cache};
-ghost use Rattle.machine.specs.Status.{cpu, with};
+ghost use Rattle.machine.specs.Registers.{isp, psw, shad};
+ghost use Rattle.machine.specs.Status.{with, reg};
 ghost use Rattle.word.specs.Sums.{minusOf};
+ghost use Rattle.access.specs.Contracts.{Becomes};
 ghost use Rattle.exec.specs.Control.{jumped as jumpedOf};
 ghost use Rattle.exec.specs.Frames.{returned as returnedOf, reset as resetOf};
 
 // A frame of a quad-word on the interrupt stack.
 pub fn pushed(b: &mut [u32; 17])
-    ensures { λ r. ⌜ ((q : Cache) → cpu (now (b .exit)) q ≡ with (with (cpu (now (b .entry)) q) isp (minusOf (word (now (b .entry)) isp) 16)) shad (minusOf (word (now (b .entry)) isp) 16)) ⌝ }
+    ensures { λ r. ⌜ Becomes b (λ c. with (with c isp (minusOf (reg c isp) 16)) shad (minusOf (reg c isp) 16)) ⌝ }
 {
     let i = minus(b[3], 16);
     b[3] = i;
@@ -24,7 +23,7 @@ pub fn pushed(b: &mut [u32; 17])
 
 // PC from a vector, and the PSW of a handler.
 pub fn vectored(b: &mut [u32; 17], a: u32)
-    ensures { λ r. ⌜ ((q : Cache) → cpu (now (b .exit)) q ≡ with (jumpedOf (cpu (now (b .entry)) q) a) psw (word (now (b .entry)) psw / 2 ^ 16 * 2 ^ 16)) ⌝ }
+    ensures { λ r. ⌜ Becomes b (λ c. with (jumpedOf c a) psw (reg c psw / 2 ^ 16 * 2 ^ 16)) ⌝ }
 {
     let p = masked(b[6]);
     b[5] = a / 2 * 2;
@@ -33,7 +32,7 @@ pub fn vectored(b: &mut [u32; 17], a: u32)
 
 // KRET and CRET: the words a and p of PC and PSW restored, and the frame left.
 pub fn returned(b: &mut [u32; 17], a: u32, p: u32)
-    ensures { λ r. ⌜ ((q : Cache) → cpu (now (b .exit)) q ≡ returnedOf (cpu (now (b .entry)) q) a p) ⌝ }
+    ensures { λ r. ⌜ Becomes b (λ c. returnedOf c a p) ⌝ }
 {
     let i = plus(b[3], 16);
     b[5] = a / 2 * 2;
@@ -48,7 +47,7 @@ pub fn returned(b: &mut [u32; 17], a: u32, p: u32)
 
 // The reset by a fault.
 pub fn reset(b: &mut [u32; 17])
-    ensures { λ r. ⌜ ((q : Cache) → cpu (now (b .exit)) q ≡ resetOf (cpu (now (b .entry)) q)) ⌝ }
+    ensures { λ r. ⌜ Becomes b resetOf ⌝ }
 {
     b[7] = b[6];
     b[6] = 0;

@@ -3,9 +3,9 @@ use machine::registers::kept;
 use machine::status::csp;
 ghost use mathlib.Core.Path.{_≡_};
 ghost use lib.ListN.{length};
-ghost use Rattle.machine.specs.Cache.{Cache};
 ghost use Rattle.machine.specs.Registers.{sp, isp, msp};
-ghost use Rattle.machine.specs.Status.{cpu, with};
+ghost use Rattle.machine.specs.Status.{with};
+ghost use Rattle.access.specs.Contracts.{Becomes};
 ghost use Rattle.exec.specs.Operands.{shadowed as shadowedOf, writeRegister};
 
 // Says how long a bank is, which is not known of a lent one; the answer is not used.
@@ -17,7 +17,7 @@ fn bank_size(b: [u32; 17]) -> u32
 
 // The word at a place of the bank; a place past its end takes none.
 pub fn put(b: &mut [u32; 17], k: u32, v: u32)
-    ensures { λ r. ⌜ ((q : Cache) → cpu (now (b .exit)) q ≡ with (cpu (now (b .entry)) q) k v) ⌝ }
+    ensures { λ r. ⌜ Becomes b (λ c. with c k v) ⌝ }
 {
     if k < 17 {
         let i = k as usize;
@@ -30,7 +30,7 @@ pub fn put(b: &mut [u32; 17], k: u32, v: u32)
 
 // SHAD follows the current stack pointer.
 fn shadowed(b: &mut [u32; 17], k: u32, v: u32)
-    ensures { λ r. ⌜ ((q : Cache) → cpu (now (b .exit)) q ≡ shadowedOf (cpu (now (b .entry)) q) k v) ⌝ }
+    ensures { λ r. ⌜ Becomes b (λ c. shadowedOf c k v) ⌝ }
 {
     if k == csp(b) {
         b[7] = v;
@@ -39,7 +39,7 @@ fn shadowed(b: &mut [u32; 17], k: u32, v: u32)
 
 // SP, and MSP with it.
 fn write_sp(b: &mut [u32; 17], v: u32)
-    ensures { λ r. ⌜ ((q : Cache) → cpu (now (b .exit)) q ≡ shadowedOf (with (with (cpu (now (b .entry)) q) sp v) msp v) sp v) ⌝ }
+    ensures { λ r. ⌜ Becomes b (λ c. shadowedOf (with (with c sp v) msp v) sp v) ⌝ }
 {
     b[8] = v;
     b[4] = v;
@@ -47,7 +47,7 @@ fn write_sp(b: &mut [u32; 17], v: u32)
 }
 
 fn write_isp(b: &mut [u32; 17], v: u32)
-    ensures { λ r. ⌜ ((q : Cache) → cpu (now (b .exit)) q ≡ shadowedOf (with (cpu (now (b .entry)) q) isp v) isp v) ⌝ }
+    ensures { λ r. ⌜ Becomes b (λ c. shadowedOf (with c isp v) isp v) ⌝ }
 {
     b[3] = v;
     shadowed(b, 3, v);
@@ -55,7 +55,7 @@ fn write_isp(b: &mut [u32; 17], v: u32)
 
 // The register at place k, without its reserved bits: ID takes none.
 pub fn write_register(b: &mut [u32; 17], k: u32, v: u32)
-    ensures { λ r. ⌜ ((q : Cache) → cpu (now (b .exit)) q ≡ writeRegister (cpu (now (b .entry)) q) k v) ⌝ }
+    ensures { λ r. ⌜ Becomes b (λ c. writeRegister c k v) ⌝ }
 {
     if k != 2 {
         if k == 8 {

@@ -11,13 +11,7 @@ use bank::flow::stack_address;
 use isa::MonadicMode;
 use memory::answers::low32;
 use word::Width;
-ghost use mathlib.Core.Path.{_≡_};
-ghost use Rattle.memory.specs.Answers.{answerOf};
-ghost use Rattle.program.specs.Access.{gave};
-ghost use Rattle.program.specs.Program.{interpret};
-ghost use Rattle.program.specs.Journal.{journaled, logging};
-ghost use Rattle.machine.specs.Status.{cpu};
-ghost use Rattle.access.specs.Code.{ended};
+ghost use Rattle.access.specs.Contracts.{Ends};
 ghost use Rattle.exec.specs.Control.{jump as jumpOf, jumpIf, call as callOf, loadAddress, return as returnOf};
 ghost use Rattle.control.specs.Code.{callTo, loadAccumulator};
 
@@ -29,7 +23,7 @@ pub fn jump(
     mode: MonadicMode,
     v: u32,
 ) -> u64
-    ensures { λ x. ⌜ gave (ended (answerOf x) (now (r .exit)) (now (q .entry))) (journaled (now (m .exit)) (now (journal .exit))) ≡ interpret logging (jumpOf (cpu (now (r .entry)) (now (q .entry))) mode v) (journaled (now (m .entry)) (now (journal .entry))) ⌝ }
+    ensures { λ x. ⌜ Ends x m journal q r (λ c. jumpOf c mode v) ⌝ }
 {
     let x = read_word32(m, journal, q, r, mode, v);
     if 0x1_0000_0000 <= x {
@@ -50,7 +44,7 @@ pub fn jump_if(
     v: u32,
     n: u32,
 ) -> u64
-    ensures { λ x. ⌜ gave (ended (answerOf x) (now (r .exit)) (now (q .entry))) (journaled (now (m .exit)) (now (journal .exit))) ≡ interpret logging (jumpIf taken (cpu (now (r .entry)) (now (q .entry))) mode v n) (journaled (now (m .entry)) (now (journal .entry))) ⌝ }
+    ensures { λ x. ⌜ Ends x m journal q r (λ c. jumpIf taken c mode v n) ⌝ }
 {
     if taken {
         jump(m, journal, q, r, mode, v)
@@ -69,7 +63,7 @@ fn call_to(
     a: u32,
     n: u32,
 ) -> u64
-    ensures { λ x. ⌜ gave (ended (answerOf x) (now (r .exit)) (now (q .exit))) (journaled (now (m .exit)) (now (journal .exit))) ≡ interpret logging (callTo (cpu (now (r .entry)) (now (q .entry))) a n) (journaled (now (m .entry)) (now (journal .entry))) ⌝ }
+    ensures { λ x. ⌜ Ends x m journal q r (λ c. callTo c a n) ⌝ }
 {
     let s = stack_pointer(r);
     let p = next_pc(r, n);
@@ -90,7 +84,7 @@ pub fn call(
     v: u32,
     n: u32,
 ) -> u64
-    ensures { λ x. ⌜ gave (ended (answerOf x) (now (r .exit)) (now (q .exit))) (journaled (now (m .exit)) (now (journal .exit))) ≡ interpret logging (callOf (cpu (now (r .entry)) (now (q .entry))) mode v n) (journaled (now (m .entry)) (now (journal .entry))) ⌝ }
+    ensures { λ x. ⌜ Ends x m journal q r (λ c. callOf c mode v n) ⌝ }
 {
     let x = read_word32(m, journal, q, r, mode, v);
     if 0x1_0000_0000 <= x {
@@ -108,7 +102,7 @@ fn load_accumulator(
     a: u32,
     n: u32,
 ) -> u64
-    ensures { λ x. ⌜ gave (ended (answerOf x) (now (r .exit)) (now (q .exit))) (journaled (now (m .exit)) (now (journal .exit))) ≡ interpret logging (loadAccumulator (cpu (now (r .entry)) (now (q .entry))) a n) (journaled (now (m .entry)) (now (journal .entry))) ⌝ }
+    ensures { λ x. ⌜ Ends x m journal q r (λ c. loadAccumulator c a n) ⌝ }
 {
     let s = stack_address(r, 4);
     let x = store(m, journal, q, r, Width::Word, s, a);
@@ -129,7 +123,7 @@ pub fn load_address(
     v: u32,
     n: u32,
 ) -> u64
-    ensures { λ x. ⌜ gave (ended (answerOf x) (now (r .exit)) (now (q .exit))) (journaled (now (m .exit)) (now (journal .exit))) ≡ interpret logging (loadAddress (cpu (now (r .entry)) (now (q .entry))) mode v n) (journaled (now (m .entry)) (now (journal .entry))) ⌝ }
+    ensures { λ x. ⌜ Ends x m journal q r (λ c. loadAddress c mode v n) ⌝ }
 {
     let x = read_word32(m, journal, q, r, mode, v);
     if 0x1_0000_0000 <= x {
@@ -146,7 +140,7 @@ pub fn return_from(
     r: &mut [u32; 17],
     v: u32,
 ) -> u64
-    ensures { λ x. ⌜ gave (ended (answerOf x) (now (r .exit)) (now (q .entry))) (journaled (now (m .exit)) (now (journal .exit))) ≡ interpret logging (returnOf (cpu (now (r .entry)) (now (q .entry))) v) (journaled (now (m .entry)) (now (journal .entry))) ⌝ }
+    ensures { λ x. ⌜ Ends x m journal q r (λ c. returnOf c v) ⌝ }
 {
     let a = stack_address(r, v);
     let x = load(m, journal, q, r, Width::Word, a);

@@ -8,14 +8,9 @@ use memory::answers::low32;
 use word::Width;
 use word::sums::plus;
 ghost use mathlib.Core.Path.{_≡_};
-ghost use Prim.Native.Nat.{_^_, _<_};
-ghost use Rattle.memory.specs.Answers.{answerOf};
-ghost use Rattle.program.specs.Access.{gave};
-ghost use Rattle.program.specs.Program.{interpret};
-ghost use Rattle.program.specs.Journal.{journaled, logging};
 ghost use Rattle.machine.specs.Registers.{word};
-ghost use Rattle.machine.specs.Status.{cpu, csp};
-ghost use Rattle.access.specs.Code.{valued};
+ghost use Rattle.machine.specs.Status.{csp};
+ghost use Rattle.access.specs.Contracts.{Yields};
 ghost use Rattle.exec.specs.Control.{readWord32};
 ghost use Rattle.control.specs.Code.{readThrough};
 
@@ -27,7 +22,7 @@ pub fn read_through(
     r: &mut [u32; 17],
     a: u32,
 ) -> u64
-    ensures { λ x. ⌜ (gave (valued (answerOf x) (now (r .exit)) (now (q .entry))) (journaled (now (m .exit)) (now (journal .exit))) ≡ interpret logging (readThrough (cpu (now (r .entry)) (now (q .entry))) a) (journaled (now (m .entry)) (now (journal .entry)))) × (x < 2 ^ 32 → now (r .exit) ≡ now (r .entry)) ⌝ }
+    ensures { λ x. ⌜ Yields x m journal q r (λ c. readThrough c a) ⌝ }
 {
     let x = load(m, journal, q, r, Width::Word, a);
     if 0x1_0000_0000 <= x {
@@ -45,7 +40,7 @@ pub fn read_word32(
     mode: MonadicMode,
     v: u32,
 ) -> u64
-    ensures { λ x. ⌜ (gave (valued (answerOf x) (now (r .exit)) (now (q .entry))) (journaled (now (m .exit)) (now (journal .exit))) ≡ interpret logging (readWord32 (cpu (now (r .entry)) (now (q .entry))) mode v) (journaled (now (m .entry)) (now (journal .entry)))) × (x < 2 ^ 32 → now (r .exit) ≡ now (r .entry)) ⌝ }
+    ensures { λ x. ⌜ Yields x m journal q r (λ c. readWord32 c mode v) ⌝ }
 {
     match mode {
         MonadicMode::WordAbsolute => load(m, journal, q, r, Width::Word, v),

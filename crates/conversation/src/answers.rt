@@ -10,12 +10,12 @@ use machine::assign::set_register;
 use runs::running::run_lent;
 ghost use mathlib.Core.Path.{_≡_};
 ghost use Rattle.machine.specs.Registers.{setRegister};
-ghost use Rattle.machine.specs.Status.{cpu};
-ghost use Rattle.run.specs.Run.{board, run as runOf};
-ghost use Rattle.lines.specs.Answers.{output, printed};
+ghost use Rattle.run.specs.Run.{run as runOf};
+ghost use Rattle.run.specs.Boards.{entryBoard};
+ghost use Rattle.lines.specs.Answers.{output};
 ghost use Rattle.lines.specs.Stores.{storeOf};
 ghost use Rattle.conversation.specs.Conversation.{unlessDone, hasRun, answerOf};
-ghost use Rattle.conversation.specs.Code.{deskOf, laid};
+ghost use Rattle.conversation.specs.Code.{laid, entryDesk, exitDesk, Prints};
 ghost use Rattle.conversation.specs.Blocks.{isLongRun, lineAnswered, answeredUnless};
 
 // The refusal of a line that is no frame.
@@ -23,7 +23,7 @@ const BAD_LINE: u32 = 7;
 
 // The 82 line of a refusal; a line that was done prints nothing.
 fn put_unless_done(out: &mut [u8], at: usize, number: u32, refusal: u32) -> usize
-    ensures { λ r. ⌜ output (now (out .exit)) r ≡ printed (unlessDone number refusal) (output (now (out .entry)) at) ⌝ }
+    ensures { λ r. ⌜ Prints r out at (unlessDone number refusal) ⌝ }
 {
     if refusal == 0 {
         return at;
@@ -41,7 +41,7 @@ fn tell_set(
     at: usize,
 ) -> usize
     ensures { λ x. ⌜ (now (r .exit) ≡ setRegister (now (r .entry)) place value .bank)
-        × (output (now (out .exit)) x ≡ printed (unlessDone number (setRegister (now (r .entry)) place value .refusal)) (output (now (out .entry)) at)) ⌝ }
+        × Prints x out at (unlessDone number (setRegister (now (r .entry)) place value .refusal)) ⌝ }
 {
     let refusal = set_register(r, place, value);
     put_unless_done(out, at, number, refusal)
@@ -57,7 +57,7 @@ fn tell_store(
     at: usize,
 ) -> usize
     ensures { λ x. ⌜ (now (m .exit) ≡ storeOf (now (line .entry)) (now (m .entry)) address .memory)
-        × (output (now (out .exit)) x ≡ printed (unlessDone number (storeOf (now (line .entry)) (now (m .entry)) address .refusal)) (output (now (out .entry)) at)) ⌝ }
+        × Prints x out at (unlessDone number (storeOf (now (line .entry)) (now (m .entry)) address .refusal)) ⌝ }
 {
     let refusal = store(line, m, address);
     put_unless_done(out, at, number, refusal)
@@ -74,7 +74,7 @@ fn tell_run(
     out: &mut [u8],
     at: usize,
 ) -> usize
-    ensures { λ x. ⌜ deskOf (cpu (now (r .exit)) (now (q .exit))) (now (m .exit)) (now (out .exit)) x ≡ laid (hasRun (runOf confined budget level (board (cpu (now (r .entry)) (now (q .entry))) (now (m .entry))))) (output (now (out .entry)) at) ⌝ }
+    ensures { λ x. ⌜ exitDesk m q r out x ≡ laid (hasRun (runOf confined budget level (entryBoard m q r))) (output (now (out .entry)) at) ⌝ }
 {
     let e = run_lent(m, q, r, confined, budget, level);
     put_ran(out, at, e.steps, e.stop, e.code, r[5], r[6])
@@ -91,7 +91,7 @@ fn tell_frame(
     out: &mut [u8],
     at: usize,
 ) -> usize
-    ensures { λ x. ⌜ deskOf (cpu (now (r .exit)) (now (q .exit))) (now (m .exit)) (now (out .exit)) x ≡ laid (answerOf number (now (line .entry)) (board (cpu (now (r .entry)) (now (q .entry))) (now (m .entry))) frame) (output (now (out .entry)) at) ⌝ }
+    ensures { λ x. ⌜ exitDesk m q r out x ≡ laid (answerOf number (now (line .entry)) (entryBoard m q r) frame) (output (now (out .entry)) at) ⌝ }
 {
     match frame {
         Frame::Set(place, value) => tell_set(r, place, value, number, out, at),
@@ -128,7 +128,8 @@ pub fn tell(
     out: &mut [u8],
     at: usize,
 ) -> AfterLine
-    ensures { λ x. ⌜ lineAnswered (deskOf (cpu (now (r .exit)) (now (q .exit))) (now (m .exit)) (now (out .exit)) (x .place)) (x .waits) ≡ answeredUnless begun number (now (line .entry)) (deskOf (cpu (now (r .entry)) (now (q .entry))) (now (m .entry)) (now (out .entry)) at) ⌝ }
+    ensures { λ x. ⌜ lineAnswered (exitDesk m q r out (x .place)) (x .waits)
+        ≡ answeredUnless begun number (now (line .entry)) (entryDesk m q r out at) ⌝ }
 {
     let frame = parse(line);
     if begun & is_long_run(frame) {

@@ -5,9 +5,8 @@ ghost use mathlib.Core.Path.{_≡_};
 ghost use Prim.Native.Nat.{_+_, _≤_};
 ghost use lib.Dec.{leb};
 ghost use lib.ListN.{length, drop};
-ghost use Rattle.machine.specs.Status.{cpu};
-ghost use Rattle.conversation.specs.Code.{deskOf};
 ghost use Rattle.conversation.specs.Blocks.{newlineAt, talked, blockTold};
+ghost use Rattle.conversation.specs.Code.{entryDesk, exitDesk};
 
 // Whether none of eight bytes is a newline, without a branch between them: the compiler takes them at once.
 fn none_in_eight(text: &[u8], i: usize) -> bool
@@ -27,7 +26,8 @@ fn none_in_eight(text: &[u8], i: usize) -> bool
 // A place up to the first newline from a place on, fewer than eight bytes before it where as many follow.
 fn skip(text: &[u8], from: usize) -> usize
     requires { ⌜ from ≤ length (now text) ⌝ }
-    ensures { λ r. ⌜ (r ≤ length (now (text .entry))) × (r + newlineAt (drop r (now (text .entry))) ≡ from + newlineAt (drop from (now (text .entry)))) ⌝ }
+    ensures { λ r. ⌜ (r ≤ length (now (text .entry)))
+        × (r + newlineAt (drop r (now (text .entry))) ≡ from + newlineAt (drop from (now (text .entry)))) ⌝ }
 {
     let n = text.len();
     let mut i = from;
@@ -66,7 +66,8 @@ pub fn tell_block(
     r: &mut [u32; 17],
     out: &mut [u8],
 ) -> Talk
-    ensures { λ x. ⌜ talked (deskOf (cpu (now (r .exit)) (now (q .exit))) (now (m .exit)) (now (out .exit)) (x .place)) (x .last) (x .rest) (x .more) ≡ blockTold number (now (text .entry)) (deskOf (cpu (now (r .entry)) (now (q .entry))) (now (m .entry)) (now (out .entry)) 0) ⌝ }
+    ensures { λ x. ⌜ talked (exitDesk m q r out (x .place)) (x .last) (x .rest) (x .more)
+        ≡ blockTold number (now (text .entry)) (entryDesk m q r out 0) ⌝ }
 {
     let mut place = 0;
     let mut last = number;

@@ -5,11 +5,10 @@ use crate::blocks::tell_block;
 ghost use mathlib.Core.Path.{_≡_};
 ghost use Prim.Native.Nat.{_-_, _<_, _≤_};
 ghost use lib.ListN.{length, take, drop};
-ghost use Rattle.machine.specs.Status.{cpu};
 ghost use Rattle.conversation.specs.Conversation.{next};
-ghost use Rattle.conversation.specs.Code.{deskOf};
 ghost use Rattle.conversation.specs.Blocks.{toldAll};
 ghost use Rattle.conversation.specs.Stream.{mostCarried, exchange, exchangeOf, beginning, lastLine};
+ghost use Rattle.conversation.specs.Code.{entryDesk, exitDesk};
 
 // No frame is as long, so an unended line that is cut there stays bad.
 const MOST_CARRIED: usize = 75;
@@ -60,7 +59,8 @@ pub fn converse(
     r: &mut [u32; 17],
     out: &mut [u8],
 ) -> Stream
-    ensures { λ x. ⌜ exchange (deskOf (cpu (now (r .exit)) (now (q .exit))) (now (m .exit)) (now (out .exit)) (x .place)) (x .last) (drop (x .from) (take (x .end) (now (block .exit)))) (x .more) ≡ exchangeOf (s .last) (drop (s .from) (take end (now (block .entry)))) (deskOf (cpu (now (r .entry)) (now (q .entry))) (now (m .entry)) (now (out .entry)) 0) ⌝ }
+    ensures { λ x. ⌜ exchange (exitDesk m q r out (x .place)) (x .last) (drop (x .from) (take (x .end) (now (block .exit)))) (x .more)
+        ≡ exchangeOf (s .last) (drop (s .from) (take end (now (block .entry)))) (entryDesk m q r out 0) ⌝ }
 {
     let e = least(end, block.len());
     let f = least(s.from, e);
@@ -93,7 +93,8 @@ pub fn finish(
     r: &mut [u32; 17],
     out: &mut [u8],
 ) -> usize
-    ensures { λ x. ⌜ deskOf (cpu (now (r .exit)) (now (q .exit))) (now (m .exit)) (now (out .exit)) x ≡ toldAll (next (s .last)) (lastLine (drop (s .from) (take (s .end) (now (block .entry))))) (deskOf (cpu (now (r .entry)) (now (q .entry))) (now (m .entry)) (now (out .entry)) 0) ⌝ }
+    ensures { λ x. ⌜ exitDesk m q r out x
+        ≡ toldAll (next (s .last)) (lastLine (drop (s .from) (take (s .end) (now (block .entry))))) (entryDesk m q r out 0) ⌝ }
 {
     let e = least(s.end, block.len());
     let f = least(s.from, e);

@@ -31,6 +31,10 @@ loading c a f = do
   y ← readData c Word (plusOf a 4)
   f x y
 
+-- four words in a row, then the rest
+abbrev pub loadingFour : Cpu → ℕ → (ℕ → ℕ → ℕ → ℕ → Program (Out Cpu)) → Program (Out Cpu)
+loadingFour c a f = loading c a (λ x y. loading c (plusOf (plusOf a 4) 4) (λ u v. f x y u v))
+
 abbrev pub storing : Cpu → ℕ → ℕ → ℕ → (Cpu → Program (Out Cpu)) → Program (Out Cpu)
 storing c a x y f = do
   c ← writeData c Word a x

@@ -8,13 +8,8 @@ use isa::Wide;
 use memory::answers::low32;
 use operands::places::locate_at;
 ghost use mathlib.Core.Path.{_≡_};
-ghost use Rattle.memory.specs.Answers.{answerOf};
-ghost use Rattle.program.specs.Access.{gave};
-ghost use Rattle.program.specs.Program.{interpret};
-ghost use Rattle.program.specs.Journal.{journaled, logging};
-ghost use Rattle.machine.specs.Status.{cpu};
-ghost use Rattle.access.specs.Code.{ended};
 ghost use Rattle.isa.specs.Legal.{ofMode, doubleWord};
+ghost use Rattle.access.specs.Contracts.{Ends};
 ghost use Rattle.exec.specs.Dyadic.{moveWords};
 ghost use Rattle.operands.specs.Code.{placeAt};
 ghost use Rattle.dqm.specs.Words.{wordsOf, putWords, copyWords};
@@ -64,7 +59,7 @@ fn put_words(
     w: Words,
     y: u32,
 ) -> u64
-    ensures { λ z. ⌜ gave (ended (answerOf z) (now (r .exit)) (now (q .exit))) (journaled (now (m .exit)) (now (journal .exit))) ≡ interpret logging (putWords (cpu (now (r .entry)) (now (q .entry))) double wide d (wordsOf double (w .w0) (w .w1) (w .w2) y)) (journaled (now (m .entry)) (now (journal .entry))) ⌝ }
+    ensures { λ z. ⌜ Ends z m journal q r (λ c. putWords c double wide d (wordsOf double (w .w0) (w .w1) (w .w2) y)) ⌝ }
 {
     let a = locate_at(m, journal, q, r, wide, d);
     if 0x1_0000_0000 <= a {
@@ -86,7 +81,7 @@ fn copy_words(
     a: u32,
     d: Operand,
 ) -> u64
-    ensures { λ z. ⌜ gave (ended (answerOf z) (now (r .exit)) (now (q .exit))) (journaled (now (m .exit)) (now (journal .exit))) ≡ interpret logging (copyWords (cpu (now (r .entry)) (now (q .entry))) double wide d (placeAt s a)) (journaled (now (m .entry)) (now (journal .entry))) ⌝ }
+    ensures { λ z. ⌜ Ends z m journal q r (λ c. copyWords c double wide d (placeAt s a)) ⌝ }
 {
     let w = read_many(m, journal, q, r, double, s, a);
     if 0x1_0000_0000 <= w.answer {
@@ -106,7 +101,7 @@ pub fn move_words(
     s: Operand,
     d: Operand,
 ) -> u64
-    ensures { λ z. ⌜ gave (ended (answerOf z) (now (r .exit)) (now (q .exit))) (journaled (now (m .exit)) (now (journal .exit))) ≡ interpret logging (moveWords (cpu (now (r .entry)) (now (q .entry))) wide s d) (journaled (now (m .entry)) (now (journal .entry))) ⌝ }
+    ensures { λ z. ⌜ Ends z m journal q r (λ c. moveWords c wide s d) ⌝ }
 {
     let double = is_double(d);
     let a = locate_at(m, journal, q, r, wide, s);

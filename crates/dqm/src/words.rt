@@ -12,20 +12,16 @@ use word::Width;
 use word::sums::plus;
 ghost use mathlib.Core.Path.{_≡_};
 ghost use Rattle.memory.specs.Answers.{answerOf};
-ghost use Rattle.program.specs.Access.{gave};
-ghost use Rattle.program.specs.Program.{interpret};
-ghost use Rattle.program.specs.Journal.{journaled, logging};
-ghost use Rattle.machine.specs.Status.{cpu};
-ghost use Rattle.access.specs.Code.{ended};
-ghost use Prim.Native.Nat.{ℕ, _<_, _^_};
+ghost use Prim.Native.Nat.{ℕ};
 ghost use mathlib.Core.List.{List, [], _∷_};
-ghost use Rattle.word.specs.Sums.{plusOf};
 ghost use Rattle.program.specs.Program.{Program};
+ghost use Rattle.program.specs.Contracts.{Continues};
 ghost use Rattle.machine.specs.Status.{Cpu};
 ghost use Rattle.access.specs.Parts.{Out};
+ghost use Rattle.access.specs.Contracts.{entryCpu, Ends};
 ghost use Rattle.exec.specs.Dyadic.{writeWords, writeMany};
-ghost use Rattle.operands.specs.Code.{placeAt, resumed};
-ghost use Rattle.dqm.specs.Words.{followed, loading, storing, wordsOf, countOf, isScalar, scalarOf, manyThen};
+ghost use Rattle.operands.specs.Code.{placeAt, Resumes};
+ghost use Rattle.dqm.specs.Words.{followed, loading, storing, wordsOf, countOf, isScalar, scalarOf, manyThen, loadingFour};
 
 // The last of two or four words or an exception, and the words before it.
 pub struct Words {
@@ -62,7 +58,7 @@ fn load_pair(
     r: &mut [u32; 17],
     a: u32,
 ) -> Words
-    ensures { λ z. ⌜ ((f : ℕ → ℕ → Program (Out Cpu)) → interpret logging (resumed (λ y. f (z .w0) y) (answerOf (z .answer)) (now (r .exit)) (now (q .entry))) (journaled (now (m .exit)) (now (journal .exit))) ≡ interpret logging (loading (cpu (now (r .entry)) (now (q .entry))) a f) (journaled (now (m .entry)) (now (journal .entry)))) × (z .answer < 2 ^ 32 → now (r .exit) ≡ now (r .entry)) ⌝ }
+    ensures { λ z. ⌜ Resumes (ℕ → ℕ → Program (Out Cpu)) (z .answer) m journal q r (λ f y. f (z .w0) y) (λ c f. loading c a f) ⌝ }
 {
     let x = load(m, journal, q, r, Width::Word, a);
     if 0x1_0000_0000 <= x {
@@ -91,7 +87,8 @@ fn load_four(
     r: &mut [u32; 17],
     a: u32,
 ) -> Words
-    ensures { λ z. ⌜ ((f : ℕ → ℕ → ℕ → ℕ → Program (Out Cpu)) → interpret logging (resumed (λ y. f (z .w0) (z .w1) (z .w2) y) (answerOf (z .answer)) (now (r .exit)) (now (q .entry))) (journaled (now (m .exit)) (now (journal .exit))) ≡ interpret logging (loading (cpu (now (r .entry)) (now (q .entry))) a (λ x y. loading (cpu (now (r .entry)) (now (q .entry))) (plusOf (plusOf a 4) 4) (λ u v. f x y u v))) (journaled (now (m .entry)) (now (journal .entry)))) × (z .answer < 2 ^ 32 → now (r .exit) ≡ now (r .entry)) ⌝ }
+    ensures { λ z. ⌜ Resumes (ℕ → ℕ → ℕ → ℕ → Program (Out Cpu)) (z .answer) m journal q r
+        (λ f y. f (z .w0) (z .w1) (z .w2) y) (λ c f. loadingFour c a f) ⌝ }
 {
     let p = load_pair(m, journal, q, r, a);
     if 0x1_0000_0000 <= p.answer {
@@ -123,7 +120,8 @@ pub fn read_many(
     o: Operand,
     a: u32,
 ) -> Words
-    ensures { λ z. ⌜ ((f : List ℕ → Program (Out Cpu)) → interpret logging (resumed (λ y. f (wordsOf double (z .w0) (z .w1) (z .w2) y)) (answerOf (z .answer)) (now (r .exit)) (now (q .entry))) (journaled (now (m .exit)) (now (journal .exit))) ≡ interpret logging (manyThen (cpu (now (r .entry)) (now (q .entry))) double (placeAt o a) f) (journaled (now (m .entry)) (now (journal .entry)))) × (z .answer < 2 ^ 32 → now (r .exit) ≡ now (r .entry)) ⌝ }
+    ensures { λ z. ⌜ Resumes (List ℕ → Program (Out Cpu)) (z .answer) m journal q r
+        (λ f y. f (wordsOf double (z .w0) (z .w1) (z .w2) y)) (λ c f. manyThen c double (placeAt o a) f) ⌝ }
 {
     if is_scalar(o) {
         let v = scalar(r, o);
@@ -170,7 +168,8 @@ fn store_pair(
     x: u32,
     y: u32,
 ) -> u64
-    ensures { λ z. ⌜ ((f : Cpu → Program (Out Cpu)) → interpret logging (followed f (answerOf z) (now (r .exit)) (now (q .exit))) (journaled (now (m .exit)) (now (journal .exit))) ≡ interpret logging (storing (cpu (now (r .entry)) (now (q .entry))) a x y f) (journaled (now (m .entry)) (now (journal .entry)))) ⌝ }
+    ensures { λ z. ⌜ ((f : Cpu → Program (Out Cpu))
+        → Continues (followed f (answerOf z) (now (r .exit)) (now (q .exit))) m journal (storing (entryCpu q r) a x y f)) ⌝ }
 {
     let e = store(m, journal, q, r, Width::Word, a, x);
     if 0x1_0000_0000 <= e {
@@ -190,7 +189,7 @@ fn store_four(
     w: Words,
     y: u32,
 ) -> u64
-    ensures { λ z. ⌜ gave (ended (answerOf z) (now (r .exit)) (now (q .exit))) (journaled (now (m .exit)) (now (journal .exit))) ≡ interpret logging (writeWords (cpu (now (r .entry)) (now (q .entry))) a (w .w0 ∷ w .w1 ∷ w .w2 ∷ y ∷ [])) (journaled (now (m .entry)) (now (journal .entry))) ⌝ }
+    ensures { λ z. ⌜ Ends z m journal q r (λ c. writeWords c a (w .w0 ∷ w .w1 ∷ w .w2 ∷ y ∷ [])) ⌝ }
 {
     let e = store_pair(m, journal, q, r, a, w.w0, w.w1);
     if 0x1_0000_0000 <= e {
@@ -212,7 +211,7 @@ pub fn write_many(
     w: Words,
     y: u32,
 ) -> u64
-    ensures { λ z. ⌜ gave (ended (answerOf z) (now (r .exit)) (now (q .exit))) (journaled (now (m .exit)) (now (journal .exit))) ≡ interpret logging (writeMany (cpu (now (r .entry)) (now (q .entry))) (countOf double) (placeAt o a) (wordsOf double (w .w0) (w .w1) (w .w2) y)) (journaled (now (m .entry)) (now (journal .entry))) ⌝ }
+    ensures { λ z. ⌜ Ends z m journal q r (λ c. writeMany c (countOf double) (placeAt o a) (wordsOf double (w .w0) (w .w1) (w .w2) y)) ⌝ }
 {
     if is_scalar(o) {
         good(0)

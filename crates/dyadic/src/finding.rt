@@ -6,17 +6,12 @@ use memory::answers::low32;
 use operands::places::locate_at;
 use operands::places::read_at;
 use operands::places::read_operand;
-ghost use mathlib.Core.Path.{_≡_};
-ghost use Rattle.memory.specs.Answers.{answerOf};
-ghost use Rattle.program.specs.Program.{interpret};
-ghost use Rattle.program.specs.Journal.{journaled, logging};
-ghost use Rattle.machine.specs.Status.{cpu};
-ghost use Prim.Native.Nat.{ℕ, _<_, _^_};
+ghost use Prim.Native.Nat.{ℕ};
 ghost use Rattle.program.specs.Program.{Program};
 ghost use Rattle.machine.specs.Status.{Cpu};
 ghost use Rattle.access.specs.Parts.{Out};
 ghost use Rattle.exec.specs.Operands.{Place};
-ghost use Rattle.operands.specs.Code.{placeAt, resumed};
+ghost use Rattle.operands.specs.Code.{placeAt, Resumes};
 ghost use Rattle.dyadic.specs.Code.{finding, reading};
 
 // The destination's address or an exception, and the source's value.
@@ -42,7 +37,8 @@ pub fn find(
     s: Operand,
     d: Operand,
 ) -> Found
-    ensures { λ z. ⌜ ((f : ℕ → Place → Program (Out Cpu)) → interpret logging (resumed (λ a. f (z .source) (placeAt d a)) (answerOf (z .answer)) (now (r .exit)) (now (q .entry))) (journaled (now (m .exit)) (now (journal .exit))) ≡ interpret logging (finding (cpu (now (r .entry)) (now (q .entry))) wide s d f) (journaled (now (m .entry)) (now (journal .entry)))) × (z .answer < 2 ^ 32 → now (r .exit) ≡ now (r .entry)) ⌝ }
+    ensures { λ z. ⌜ Resumes (ℕ → Place → Program (Out Cpu)) (z .answer) m journal q r
+        (λ f a. f (z .source) (placeAt d a)) (λ c f. finding c wide s d f) ⌝ }
 {
     let x = read_operand(m, journal, q, r, wide, s);
     if 0x1_0000_0000 <= x {
@@ -69,7 +65,8 @@ pub fn read_both(
     s: Operand,
     d: Operand,
 ) -> Both
-    ensures { λ z. ⌜ ((f : ℕ → Place → ℕ → Program (Out Cpu)) → interpret logging (resumed (λ y. f (z .source) (placeAt d (z .address)) y) (answerOf (z .answer)) (now (r .exit)) (now (q .entry))) (journaled (now (m .exit)) (now (journal .exit))) ≡ interpret logging (reading (cpu (now (r .entry)) (now (q .entry))) wide s d f) (journaled (now (m .entry)) (now (journal .entry)))) × (z .answer < 2 ^ 32 → now (r .exit) ≡ now (r .entry)) ⌝ }
+    ensures { λ z. ⌜ Resumes (ℕ → Place → ℕ → Program (Out Cpu)) (z .answer) m journal q r
+        (λ f y. f (z .source) (placeAt d (z .address)) y) (λ c f. reading c wide s d f) ⌝ }
 {
     let f = find(m, journal, q, r, wide, s, d);
     if 0x1_0000_0000 <= f.answer {

@@ -8,12 +8,7 @@ use operands::places::is_constant;
 use operands::places::locate_at;
 use operands::places::write_at;
 ghost use mathlib.Core.Path.{_≡_};
-ghost use Rattle.memory.specs.Answers.{answerOf};
-ghost use Rattle.program.specs.Access.{gave};
-ghost use Rattle.program.specs.Program.{interpret};
-ghost use Rattle.program.specs.Journal.{journaled, logging};
-ghost use Rattle.machine.specs.Status.{cpu};
-ghost use Rattle.access.specs.Code.{ended};
+ghost use Rattle.access.specs.Contracts.{Ends};
 ghost use Rattle.exec.specs.Operands.{kindOf};
 ghost use Rattle.exec.specs.Dyadic.{move as moveOf, moveAddress, placeAddress};
 ghost use Rattle.operands.specs.Code.{generalAt, placeAt};
@@ -29,7 +24,7 @@ pub fn move_operand(
     s: Operand,
     d: Operand,
 ) -> u64
-    ensures { λ z. ⌜ gave (ended (answerOf z) (now (r .exit)) (now (q .exit))) (journaled (now (m .exit)) (now (journal .exit))) ≡ interpret logging (moveOf (cpu (now (r .entry)) (now (q .entry))) wide s d) (journaled (now (m .entry)) (now (journal .entry))) ⌝ }
+    ensures { λ z. ⌜ Ends z m journal q r (λ c. moveOf c wide s d) ⌝ }
 {
     let f = find(m, journal, q, r, wide, s, d);
     if 0x1_0000_0000 <= f.answer {
@@ -66,7 +61,7 @@ fn move_to(
     d: Operand,
     v: u32,
 ) -> u64
-    ensures { λ z. ⌜ gave (ended (answerOf z) (now (r .exit)) (now (q .exit))) (journaled (now (m .exit)) (now (journal .exit))) ≡ interpret logging (moveTo (cpu (now (r .entry)) (now (q .entry))) wide d v) (journaled (now (m .entry)) (now (journal .entry))) ⌝ }
+    ensures { λ z. ⌜ Ends z m journal q r (λ c. moveTo c wide d v) ⌝ }
 {
     let a = locate_at(m, journal, q, r, wide, d);
     if 0x1_0000_0000 <= a {
@@ -86,7 +81,7 @@ pub fn move_address(
     s: Operand,
     d: Operand,
 ) -> u64
-    ensures { λ z. ⌜ gave (ended (answerOf z) (now (r .exit)) (now (q .exit))) (journaled (now (m .exit)) (now (journal .exit))) ≡ interpret logging (moveAddress (cpu (now (r .entry)) (now (q .entry))) wide s d) (journaled (now (m .entry)) (now (journal .entry))) ⌝ }
+    ensures { λ z. ⌜ Ends z m journal q r (λ c. moveAddress c wide s d) ⌝ }
 {
     let a = locate_at(m, journal, q, r, wide, s);
     if 0x1_0000_0000 <= a {

@@ -11,13 +11,7 @@ use exec::Task;
 use isa::Operand;
 use isa::Wide;
 use operands::checks::check_registers;
-ghost use mathlib.Core.Path.{_≡_};
-ghost use Rattle.memory.specs.Answers.{answerOf};
-ghost use Rattle.program.specs.Access.{gave};
-ghost use Rattle.program.specs.Program.{interpret};
-ghost use Rattle.program.specs.Journal.{journaled, logging};
-ghost use Rattle.machine.specs.Status.{cpu};
-ghost use Rattle.access.specs.Code.{ended};
+ghost use Rattle.access.specs.Contracts.{Ends};
 ghost use Rattle.exec.specs.Dyadic.{perform as performOf, dyadic as dyadicOf};
 
 fn perform(
@@ -30,7 +24,7 @@ fn perform(
     s: Operand,
     d: Operand,
 ) -> u64
-    ensures { λ z. ⌜ gave (ended (answerOf z) (now (r .exit)) (now (q .exit))) (journaled (now (m .exit)) (now (journal .exit))) ≡ interpret logging (performOf (cpu (now (r .entry)) (now (q .entry))) wide task s d) (journaled (now (m .entry)) (now (journal .entry))) ⌝ }
+    ensures { λ z. ⌜ Ends z m journal q r (λ c. performOf c wide task s d) ⌝ }
 {
     match task {
         Task::Compute(op) => compute(m, journal, q, r, wide, op, s, d),
@@ -56,7 +50,7 @@ pub fn execute_dyadic(
     s: Operand,
     d: Operand,
 ) -> u64
-    ensures { λ z. ⌜ gave (ended (answerOf z) (now (r .exit)) (now (q .exit))) (journaled (now (m .exit)) (now (journal .exit))) ≡ interpret logging (dyadicOf (cpu (now (r .entry)) (now (q .entry))) wide task s d) (journaled (now (m .entry)) (now (journal .entry))) ⌝ }
+    ensures { λ z. ⌜ Ends z m journal q r (λ c. dyadicOf c wide task s d) ⌝ }
 {
     let e = check_registers(r, s, d);
     if 0x1_0000_0000 <= e {

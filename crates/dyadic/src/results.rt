@@ -15,13 +15,7 @@ use memory::answers::low32;
 use memory::answers::raised;
 use operands::accumulator::write_accumulator;
 use operands::places::write_at;
-ghost use mathlib.Core.Path.{_≡_};
-ghost use Rattle.memory.specs.Answers.{answerOf};
-ghost use Rattle.program.specs.Access.{gave};
-ghost use Rattle.program.specs.Program.{interpret};
-ghost use Rattle.program.specs.Journal.{journaled, logging};
-ghost use Rattle.machine.specs.Status.{cpu};
-ghost use Rattle.access.specs.Code.{ended};
+ghost use Rattle.access.specs.Contracts.{Ends};
 ghost use Rattle.exec.specs.Dyadic.{compute as computeOf, accumulate as accumulateOf, interlock as interlockOf, compare as compareOf};
 ghost use Rattle.alu.specs.Results.{unpacked};
 ghost use Rattle.operands.specs.Code.{placeAt};
@@ -37,7 +31,7 @@ fn put_result(
     a: u32,
     w: u64,
 ) -> u64
-    ensures { λ z. ⌜ gave (ended (answerOf z) (now (r .exit)) (now (q .exit))) (journaled (now (m .exit)) (now (journal .exit))) ≡ interpret logging (putResult (cpu (now (r .entry)) (now (q .entry))) (placeAt d a) (unpacked w)) (journaled (now (m .entry)) (now (journal .entry))) ⌝ }
+    ensures { λ z. ⌜ Ends z m journal q r (λ c. putResult c (placeAt d a) (unpacked w)) ⌝ }
 {
     let x = write_at(m, journal, q, r, d, a, value_of(w));
     if 0x1_0000_0000 <= x {
@@ -56,7 +50,7 @@ fn accumulate_result(
     r: &mut [u32; 17],
     w: u64,
 ) -> u64
-    ensures { λ z. ⌜ gave (ended (answerOf z) (now (r .exit)) (now (q .exit))) (journaled (now (m .exit)) (now (journal .exit))) ≡ interpret logging (accumulateResult (cpu (now (r .entry)) (now (q .entry))) (unpacked w)) (journaled (now (m .entry)) (now (journal .entry))) ⌝ }
+    ensures { λ z. ⌜ Ends z m journal q r (λ c. accumulateResult c (unpacked w)) ⌝ }
 {
     let x = write_accumulator(m, journal, q, r, value_of(w));
     if 0x1_0000_0000 <= x {
@@ -79,7 +73,7 @@ fn compute_with(
     x: u32,
     y: u32,
 ) -> u64
-    ensures { λ z. ⌜ gave (ended (answerOf z) (now (r .exit)) (now (q .exit))) (journaled (now (m .exit)) (now (journal .exit))) ≡ interpret logging (computeWith (cpu (now (r .entry)) (now (q .entry))) op (placeAt d a) x y) (journaled (now (m .entry)) (now (journal .entry))) ⌝ }
+    ensures { λ z. ⌜ Ends z m journal q r (λ c. computeWith c op (placeAt d a) x y) ⌝ }
 {
     if divides(op) & (x == 0) {
         raised(1)
@@ -97,7 +91,7 @@ fn accumulate_with(
     x: u32,
     y: u32,
 ) -> u64
-    ensures { λ z. ⌜ gave (ended (answerOf z) (now (r .exit)) (now (q .exit))) (journaled (now (m .exit)) (now (journal .exit))) ≡ interpret logging (accumulateWith (cpu (now (r .entry)) (now (q .entry))) op x y) (journaled (now (m .entry)) (now (journal .entry))) ⌝ }
+    ensures { λ z. ⌜ Ends z m journal q r (λ c. accumulateWith c op x y) ⌝ }
 {
     if divides(op) & (x == 0) {
         raised(1)
@@ -118,7 +112,7 @@ fn interlock_with(
     x: u32,
     y: u32,
 ) -> u64
-    ensures { λ z. ⌜ gave (ended (answerOf z) (now (r .exit)) (now (q .exit))) (journaled (now (m .exit)) (now (journal .exit))) ≡ interpret logging (interlockWith (cpu (now (r .entry)) (now (q .entry))) op (placeAt d a) x y) (journaled (now (m .entry)) (now (journal .entry))) ⌝ }
+    ensures { λ z. ⌜ Ends z m journal q r (λ c. interlockWith c op (placeAt d a) x y) ⌝ }
 {
     let w = operate(op, y, x);
     let e = write_at(m, journal, q, r, d, a, value_of(w));
@@ -140,7 +134,7 @@ pub fn compute(
     s: Operand,
     d: Operand,
 ) -> u64
-    ensures { λ z. ⌜ gave (ended (answerOf z) (now (r .exit)) (now (q .exit))) (journaled (now (m .exit)) (now (journal .exit))) ≡ interpret logging (computeOf (cpu (now (r .entry)) (now (q .entry))) wide op s d) (journaled (now (m .entry)) (now (journal .entry))) ⌝ }
+    ensures { λ z. ⌜ Ends z m journal q r (λ c. computeOf c wide op s d) ⌝ }
 {
     let b = read_both(m, journal, q, r, wide, s, d);
     if 0x1_0000_0000 <= b.answer {
@@ -171,7 +165,7 @@ pub fn accumulate(
     s: Operand,
     d: Operand,
 ) -> u64
-    ensures { λ z. ⌜ gave (ended (answerOf z) (now (r .exit)) (now (q .exit))) (journaled (now (m .exit)) (now (journal .exit))) ≡ interpret logging (accumulateOf (cpu (now (r .entry)) (now (q .entry))) wide op s d) (journaled (now (m .entry)) (now (journal .entry))) ⌝ }
+    ensures { λ z. ⌜ Ends z m journal q r (λ c. accumulateOf c wide op s d) ⌝ }
 {
     let b = read_both(m, journal, q, r, wide, s, d);
     if 0x1_0000_0000 <= b.answer {
@@ -192,7 +186,7 @@ pub fn interlock(
     s: Operand,
     d: Operand,
 ) -> u64
-    ensures { λ z. ⌜ gave (ended (answerOf z) (now (r .exit)) (now (q .exit))) (journaled (now (m .exit)) (now (journal .exit))) ≡ interpret logging (interlockOf (cpu (now (r .entry)) (now (q .entry))) wide op s d) (journaled (now (m .entry)) (now (journal .entry))) ⌝ }
+    ensures { λ z. ⌜ Ends z m journal q r (λ c. interlockOf c wide op s d) ⌝ }
 {
     let b = read_both(m, journal, q, r, wide, s, d);
     if 0x1_0000_0000 <= b.answer {
@@ -223,7 +217,7 @@ pub fn compare(
     s: Operand,
     d: Operand,
 ) -> u64
-    ensures { λ z. ⌜ gave (ended (answerOf z) (now (r .exit)) (now (q .entry))) (journaled (now (m .exit)) (now (journal .exit))) ≡ interpret logging (compareOf (cpu (now (r .entry)) (now (q .entry))) wide relation s d) (journaled (now (m .entry)) (now (journal .entry))) ⌝ }
+    ensures { λ z. ⌜ Ends z m journal q r (λ c. compareOf c wide relation s d) ⌝ }
 {
     let b = read_both(m, journal, q, r, wide, s, d);
     if 0x1_0000_0000 <= b.answer {

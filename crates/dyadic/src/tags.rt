@@ -10,13 +10,7 @@ use memory::answers::good;
 use memory::answers::low32;
 use operands::places::write_at;
 use word::Tagged;
-ghost use mathlib.Core.Path.{_≡_};
-ghost use Rattle.memory.specs.Answers.{answerOf};
-ghost use Rattle.program.specs.Access.{gave};
-ghost use Rattle.program.specs.Program.{interpret};
-ghost use Rattle.program.specs.Journal.{journaled, logging};
-ghost use Rattle.machine.specs.Status.{cpu};
-ghost use Rattle.access.specs.Code.{ended};
+ghost use Rattle.access.specs.Contracts.{Ends};
 ghost use Rattle.exec.specs.Dyadic.{writeTagged, storeTagged, tagged as taggedOf, computeTagged};
 ghost use Rattle.operands.specs.Code.{placeAt};
 ghost use Rattle.dyadic.specs.Code.{putTagged};
@@ -31,7 +25,7 @@ fn put_tagged(
     d: Operand,
     a: u32,
 ) -> u64
-    ensures { λ z. ⌜ gave (ended (answerOf z) (now (r .exit)) (now (q .exit))) (journaled (now (m .exit)) (now (journal .exit))) ≡ interpret logging (putTagged (cpu (now (r .entry)) (now (q .entry))) t (placeAt d a)) (journaled (now (m .entry)) (now (journal .entry))) ⌝ }
+    ensures { λ z. ⌜ Ends z m journal q r (λ c. putTagged c t (placeAt d a)) ⌝ }
 {
     let x = write_at(m, journal, q, r, d, a, t.value);
     if 0x1_0000_0000 <= x {
@@ -52,7 +46,7 @@ fn write_tagged(
     d: Operand,
     a: u32,
 ) -> u64
-    ensures { λ z. ⌜ gave (ended (answerOf z) (now (r .exit)) (now (q .exit))) (journaled (now (m .exit)) (now (journal .exit))) ≡ interpret logging (writeTagged (cpu (now (r .entry)) (now (q .entry))) t (placeAt d a)) (journaled (now (m .entry)) (now (journal .entry))) ⌝ }
+    ensures { λ z. ⌜ Ends z m journal q r (λ c. writeTagged c t (placeAt d a)) ⌝ }
 {
     match d {
         Operand::General(_, _) => put_tagged(m, journal, q, r, t, d, a),
@@ -74,7 +68,7 @@ fn store_tagged(
     d: Operand,
     a: u32,
 ) -> u64
-    ensures { λ z. ⌜ gave (ended (answerOf z) (now (r .exit)) (now (q .exit))) (journaled (now (m .exit)) (now (journal .exit))) ≡ interpret logging (storeTagged (cpu (now (r .entry)) (now (q .entry))) t (placeAt d a)) (journaled (now (m .entry)) (now (journal .entry))) ⌝ }
+    ensures { λ z. ⌜ Ends z m journal q r (λ c. storeTagged c t (placeAt d a)) ⌝ }
 {
     if t.stored {
         write_tagged(m, journal, q, r, t, d, a)
@@ -96,7 +90,7 @@ fn tagged_with(
     x: u32,
     y: u32,
 ) -> u64
-    ensures { λ z. ⌜ gave (ended (answerOf z) (now (r .exit)) (now (q .exit))) (journaled (now (m .exit)) (now (journal .exit))) ≡ interpret logging (storeTagged (cpu (now (r .entry)) (now (q .entry))) (taggedOf minus (cpu (now (r .entry)) (now (q .entry))) y x) (placeAt d a)) (journaled (now (m .entry)) (now (journal .entry))) ⌝ }
+    ensures { λ z. ⌜ Ends z m journal q r (λ c. storeTagged c (taggedOf minus c y x) (placeAt d a)) ⌝ }
 {
     let t = tagged(minus, r[6], y, x);
     store_tagged(m, journal, q, r, t, d, a)
@@ -113,7 +107,7 @@ pub fn compute_tagged(
     s: Operand,
     d: Operand,
 ) -> u64
-    ensures { λ z. ⌜ gave (ended (answerOf z) (now (r .exit)) (now (q .exit))) (journaled (now (m .exit)) (now (journal .exit))) ≡ interpret logging (computeTagged (cpu (now (r .entry)) (now (q .entry))) wide minus s d) (journaled (now (m .entry)) (now (journal .entry))) ⌝ }
+    ensures { λ z. ⌜ Ends z m journal q r (λ c. computeTagged c wide minus s d) ⌝ }
 {
     let b = read_both(m, journal, q, r, wide, s, d);
     if 0x1_0000_0000 <= b.answer {

@@ -8,14 +8,7 @@ use control::words::read_word32;
 use isa::MonadicMode;
 use memory::answers::low32;
 use word::sums::plus;
-ghost use mathlib.Core.Path.{_≡_};
-ghost use Rattle.memory.specs.Answers.{answerOf};
-ghost use Rattle.program.specs.Access.{gave};
-ghost use Rattle.program.specs.Program.{interpret};
-ghost use Rattle.program.specs.Journal.{journaled, logging};
-ghost use Rattle.machine.specs.Cache.{Cache};
-ghost use Rattle.machine.specs.Status.{cpu};
-ghost use Rattle.access.specs.Code.{ended};
+ghost use Rattle.access.specs.Contracts.{Ends, EndsAnyCache};
 ghost use Rattle.exec.specs.Frames.{kcall as kcallOf, kret as kretOf};
 
 // n is the parcels of the instruction.
@@ -28,7 +21,7 @@ pub fn kcall(
     v: u32,
     n: u32,
 ) -> u64
-    ensures { λ x. ⌜ gave (ended (answerOf x) (now (r .exit)) (now (q .entry))) (journaled (now (m .exit)) (now (journal .exit))) ≡ interpret logging (kcallOf (cpu (now (r .entry)) (now (q .entry))) mode v n) (journaled (now (m .entry)) (now (journal .entry))) ⌝ }
+    ensures { λ x. ⌜ Ends x m journal q r (λ c. kcallOf c mode v n) ⌝ }
 {
     let x = read_word32(m, journal, q, r, mode, v);
     if 0x1_0000_0000 <= x {
@@ -45,7 +38,7 @@ pub fn kcall(
 
 // At kernel level; at user level it is exception 5.
 pub fn kret(m: &mut [u8], journal: &mut [u64; 201], r: &mut [u32; 17]) -> u64
-    ensures { λ x. ⌜ ((q : Cache) → gave (ended (answerOf x) (now (r .exit)) q) (journaled (now (m .exit)) (now (journal .exit))) ≡ interpret logging (kretOf (cpu (now (r .entry)) q)) (journaled (now (m .entry)) (now (journal .entry)))) ⌝ }
+    ensures { λ x. ⌜ EndsAnyCache x m journal r kretOf ⌝ }
 {
     let i = plus(r[3], 8);
     let x = read_frame(m, journal, r, i);

@@ -7,19 +7,12 @@ use bank::frames::vectored;
 use memory::answers::low32;
 use word::sums::minus;
 use word::sums::plus;
-ghost use mathlib.Core.Path.{_≡_};
-ghost use Rattle.memory.specs.Answers.{answerOf};
-ghost use Rattle.program.specs.Access.{gave};
-ghost use Rattle.program.specs.Program.{interpret};
-ghost use Rattle.program.specs.Journal.{journaled, logging};
-ghost use Rattle.machine.specs.Cache.{Cache};
-ghost use Rattle.machine.specs.Status.{cpu};
-ghost use Rattle.access.specs.Code.{ended};
+ghost use Rattle.access.specs.Contracts.{EndsAnyCache};
 ghost use Rattle.exec.specs.Frames.{pushPair, pushFrame, throughVector};
 
 // a as PC, and PSW.
 pub fn push_pair(m: &mut [u8], journal: &mut [u64; 201], r: &mut [u32; 17], a: u32) -> u64
-    ensures { λ x. ⌜ ((q : Cache) → gave (ended (answerOf x) (now (r .exit)) q) (journaled (now (m .exit)) (now (journal .exit))) ≡ interpret logging (pushPair (cpu (now (r .entry)) q) a) (journaled (now (m .entry)) (now (journal .entry)))) ⌝ }
+    ensures { λ x. ⌜ EndsAnyCache x m journal r (λ c. pushPair c a) ⌝ }
 {
     let i = minus(r[3], 8);
     let x = write_frame(m, journal, r, i, a);
@@ -38,7 +31,7 @@ pub fn push_pair(m: &mut [u8], journal: &mut [u64; 201], r: &mut [u32; 17], a: u
 
 // The same with a third word.
 pub fn push_frame(m: &mut [u8], journal: &mut [u64; 201], r: &mut [u32; 17], v: u32, a: u32) -> u64
-    ensures { λ x. ⌜ ((q : Cache) → gave (ended (answerOf x) (now (r .exit)) q) (journaled (now (m .exit)) (now (journal .exit))) ≡ interpret logging (pushFrame (cpu (now (r .entry)) q) v a) (journaled (now (m .entry)) (now (journal .entry)))) ⌝ }
+    ensures { λ x. ⌜ EndsAnyCache x m journal r (λ c. pushFrame c v a) ⌝ }
 {
     let i = minus(r[3], 12);
     let x = write_frame(m, journal, r, i, v);
@@ -50,7 +43,7 @@ pub fn push_frame(m: &mut [u8], journal: &mut [u64; 201], r: &mut [u32; 17], v: 
 
 // PC from the vector at an offset, and the PSW of a handler.
 pub fn through_vector(m: &mut [u8], journal: &mut [u64; 201], r: &mut [u32; 17], offset: u32) -> u64
-    ensures { λ x. ⌜ ((q : Cache) → gave (ended (answerOf x) (now (r .exit)) q) (journaled (now (m .exit)) (now (journal .exit))) ≡ interpret logging (throughVector (cpu (now (r .entry)) q) offset) (journaled (now (m .entry)) (now (journal .entry)))) ⌝ }
+    ensures { λ x. ⌜ EndsAnyCache x m journal r (λ c. throughVector c offset) ⌝ }
 {
     let i = plus(r[12], offset);
     let x = read_frame(m, journal, r, i);

@@ -11,18 +11,12 @@ use machine::status::sp_current;
 use memory::answers::low32;
 use word::Width;
 use word::sums::plus;
-ghost use mathlib.Core.Path.{_≡_};
 ghost use mathlib.Core.Bool.{cond};
 ghost use Rattle.word.specs.declared.Width.the-variants as width;
-ghost use Rattle.memory.specs.Answers.{answerOf};
-ghost use Rattle.program.specs.Access.{gave};
-ghost use Rattle.program.specs.Program.{interpret};
-ghost use Rattle.program.specs.Journal.{journaled, logging};
-ghost use Rattle.machine.specs.Registers.{word, pc, sp};
-ghost use Rattle.machine.specs.Cache.{Cache};
-ghost use Rattle.machine.specs.Status.{cpu, spCurrent};
+ghost use Rattle.machine.specs.Registers.{pc, sp};
+ghost use Rattle.machine.specs.Status.{spCurrent, reg};
 ghost use Rattle.access.specs.Data.{writeData};
-ghost use Rattle.access.specs.Code.{ended};
+ghost use Rattle.access.specs.Contracts.{Ends, EndsAnyCache};
 ghost use Rattle.exec.specs.Frames.{interruptSequence, exceptionSequence, storePc, unimplementedSequence};
 
 // An interrupt through the vector at an offset.
@@ -32,7 +26,7 @@ pub fn interrupt_sequence(
     r: &mut [u32; 17],
     vector: u32,
 ) -> u64
-    ensures { λ x. ⌜ ((q : Cache) → gave (ended (answerOf x) (now (r .exit)) q) (journaled (now (m .exit)) (now (journal .exit))) ≡ interpret logging (interruptSequence (cpu (now (r .entry)) q) vector) (journaled (now (m .entry)) (now (journal .entry)))) ⌝ }
+    ensures { λ x. ⌜ EndsAnyCache x m journal r (λ c. interruptSequence c vector) ⌝ }
 {
     let p = r[5];
     restored_csp(r);
@@ -45,7 +39,7 @@ pub fn interrupt_sequence(
 
 // Exception e.
 pub fn exception_sequence(m: &mut [u8], journal: &mut [u64; 201], r: &mut [u32; 17], e: u32) -> u64
-    ensures { λ x. ⌜ ((q : Cache) → gave (ended (answerOf x) (now (r .exit)) q) (journaled (now (m .exit)) (now (journal .exit))) ≡ interpret logging (exceptionSequence (cpu (now (r .entry)) q) e) (journaled (now (m .entry)) (now (journal .entry)))) ⌝ }
+    ensures { λ x. ⌜ EndsAnyCache x m journal r (λ c. exceptionSequence c e) ⌝ }
 {
     let p = r[5];
     restored_csp(r);
@@ -58,7 +52,7 @@ pub fn exception_sequence(m: &mut [u8], journal: &mut [u64; 201], r: &mut [u32; 
 
 // PC at the interrupt stack pointer.
 fn store_pc(m: &mut [u8], journal: &mut [u64; 201], r: &[u32; 17]) -> u64
-    ensures { λ x. ⌜ ((q : Cache) → gave (ended (answerOf x) (now (r .entry)) q) (journaled (now (m .exit)) (now (journal .exit))) ≡ interpret logging (storePc (cpu (now (r .entry)) q)) (journaled (now (m .entry)) (now (journal .entry)))) ⌝ }
+    ensures { λ x. ⌜ EndsAnyCache x m journal r storePc ⌝ }
 {
     let i = r[3];
     let p = r[5];
@@ -71,7 +65,7 @@ fn store_pc(m: &mut [u8], journal: &mut [u64; 201], r: &[u32; 17]) -> u64
 
 // PC at the current stack pointer.
 fn save_pc(m: &mut [u8], journal: &mut [u64; 201], q: &mut [[u32; 4]; 16], r: &mut [u32; 17]) -> u64
-    ensures { λ x. ⌜ gave (ended (answerOf x) (now (r .exit)) (now (q .exit))) (journaled (now (m .exit)) (now (journal .exit))) ≡ interpret logging (cond (spCurrent (now (r .entry))) (writeData (cpu (now (r .entry)) (now (q .entry))) width.Word (word (now (r .entry)) sp) (word (now (r .entry)) pc)) (storePc (cpu (now (r .entry)) (now (q .entry))))) (journaled (now (m .entry)) (now (journal .entry))) ⌝ }
+    ensures { λ x. ⌜ Ends x m journal q r (λ c. cond (spCurrent (c .bank)) (writeData c width.Word (reg c sp) (reg c pc)) (storePc c)) ⌝ }
 {
     if sp_current(r) {
         let s = r[8];
@@ -90,7 +84,7 @@ pub fn unimplemented_sequence(
     r: &mut [u32; 17],
     vector: u32,
 ) -> u64
-    ensures { λ x. ⌜ gave (ended (answerOf x) (now (r .exit)) (now (q .exit))) (journaled (now (m .exit)) (now (journal .exit))) ≡ interpret logging (unimplementedSequence (cpu (now (r .entry)) (now (q .entry))) vector) (journaled (now (m .entry)) (now (journal .entry))) ⌝ }
+    ensures { λ x. ⌜ Ends x m journal q r (λ c. unimplementedSequence c vector) ⌝ }
 {
     let x = save_pc(m, journal, q, r);
     if 0x1_0000_0000 <= x {

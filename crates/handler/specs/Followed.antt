@@ -1,5 +1,6 @@
 -- An access after its walk, on memory and journal together.
 -- Assumes nothing.
+use mathlib.Core.Path.{_≡_}
 use mathlib.Core.Bool.{Bool, true}
 use mathlib.Core.List.{[]}
 use Prim.Native.Nat.{ℕ, _%_}
@@ -7,11 +8,12 @@ use lib.Dec.{eqb}
 use Rattle.word.specs.declared.Width.{Width}
 use Rattle.word.specs.declared.Width.the-variants.{Byte, Half, Word}
 use Rattle.memory.specs.Bytes.{Memory}
-use Rattle.memory.specs.Answers.{Answer}
+use Rattle.memory.specs.Answers.{Answer, answerOf}
 use Rattle.mmu.specs.declared.Walk.{Walk}
 use Rattle.mmu.specs.declared.Regime.{Regime}
 use Rattle.program.specs.Access.{Access, Gave, gave, follow}
-use Rattle.program.specs.Journal.{followNote, Journaled, journaled}
+use Rattle.program.specs.Journal.{followNote, Journal, Journaled, journaled}
+use Rattle.program.specs.Contracts.{Lent, entryWorld, exitWorld}
 
 unfoldable pub followed : Access → Walk → Journaled → Gave Journaled Answer
 followed q w t =
@@ -29,3 +31,7 @@ fitsWidth Word a = eqb (a % 4) 0
 
 abbrev pub onlyMemory : Memory → Journaled
 onlyMemory m = journaled m []
+
+-- the number x is the answer to the access q whose walk ended as w, and memory and journal are left as it leaves them
+abbrev pub Follows : ℕ → Lent Memory → Lent Journal → Access → Walk → Type 0
+Follows x m j q w = gave (answerOf x) (exitWorld m j) ≡ followed q w (entryWorld m j)

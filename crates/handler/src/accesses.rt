@@ -13,14 +13,14 @@ use mmu::translation::translate;
 use word::Width;
 ghost use mathlib.Core.Path.{_≡_};
 ghost use mathlib.Core.Bool.{true};
+ghost use mathlib.Core.List.{[]};
 ghost use Prim.Native.Nat.{_+_, _*_, _/_, _%_};
-ghost use Rattle.memory.specs.Answers.{answerOf};
 ghost use Rattle.mmu.specs.declared.Kind.the-variants as kind;
 ghost use Rattle.mmu.specs.declared.Walk.the-variants as walked;
 ghost use Rattle.mmu.specs.Walk.{walk};
-ghost use Rattle.program.specs.Access.{gave, fetch as fetches, read as reads, write as writes, probe as probes};
-ghost use Rattle.program.specs.Journal.{journaled, logging};
-ghost use Rattle.handler.specs.Followed.{followed, regimeFor, fitsWidth, onlyMemory};
+ghost use Rattle.program.specs.Access.{fetch as fetches, read as reads, write as writes, probe as probes};
+ghost use Rattle.program.specs.Contracts.{Answers, AnswersReadOnly};
+ghost use Rattle.handler.specs.Followed.{regimeFor, fitsWidth, Follows};
 
 // Whether an address is aligned to a width.
 pub fn aligned(w: Width, a: u32) -> bool
@@ -41,7 +41,7 @@ fn read_walked(
     user: bool,
     a: u32,
 ) -> u64
-    ensures { λ r. ⌜ gave (answerOf r) (journaled (now (m .exit)) (now (journal .exit))) ≡ followed (reads (regimeFor stb user true) w a) (walk user stb kind.Read a (now (m .entry))) (journaled (now (m .entry)) (now (journal .entry))) ⌝ }
+    ensures { λ r. ⌜ Follows r m journal (reads (regimeFor stb user true) w a) (walk user stb kind.Read a (now (m .entry))) ⌝ }
 {
     let x = translate(m, user, stb, Kind::Read, a);
     match x {
@@ -64,7 +64,7 @@ pub fn read(
     translated: bool,
     a: u32,
 ) -> u64
-    ensures { λ r. ⌜ gave (answerOf r) (journaled (now (m .exit)) (now (journal .exit))) ≡ logging (reads (regimeFor stb user translated) w a) (journaled (now (m .entry)) (now (journal .entry))) ⌝ }
+    ensures { λ r. ⌜ Answers r m journal (reads (regimeFor stb user translated) w a) ⌝ }
 {
     if aligned(w, a) {
         if translated {
@@ -79,7 +79,7 @@ pub fn read(
 
 // A store into the word of pa, which is noted.
 pub fn store_noted(m: &mut [u8], journal: &mut [u64; 201], w: Width, pa: u32, v: u32) -> u64
-    ensures { λ r. ⌜ gave (answerOf r) (journaled (now (m .exit)) (now (journal .exit))) ≡ followed (writes (regimeFor 0 true true) w 0 v) (walked.Direct pa) (journaled (now (m .entry)) (now (journal .entry))) ⌝ }
+    ensures { λ r. ⌜ Follows r m journal (writes (regimeFor 0 true true) w 0 v) (walked.Direct pa) ⌝ }
 {
     if pa as usize + word::widths::bytes(w) as usize <= m.len() {
         note(m, journal, pa / 4 * 4);
@@ -98,7 +98,7 @@ fn write_walked(
     a: u32,
     v: u32,
 ) -> u64
-    ensures { λ r. ⌜ gave (answerOf r) (journaled (now (m .exit)) (now (journal .exit))) ≡ followed (writes (regimeFor stb user true) w a v) (walk user stb kind.Write a (now (m .entry))) (journaled (now (m .entry)) (now (journal .entry))) ⌝ }
+    ensures { λ r. ⌜ Follows r m journal (writes (regimeFor stb user true) w a v) (walk user stb kind.Write a (now (m .entry))) ⌝ }
 {
     let x = translate(m, user, stb, Kind::Write, a);
     match x {
@@ -122,7 +122,7 @@ pub fn write(
     a: u32,
     v: u32,
 ) -> u64
-    ensures { λ r. ⌜ gave (answerOf r) (journaled (now (m .exit)) (now (journal .exit))) ≡ logging (writes (regimeFor stb user translated) w a v) (journaled (now (m .entry)) (now (journal .entry))) ⌝ }
+    ensures { λ r. ⌜ Answers r m journal (writes (regimeFor stb user translated) w a v) ⌝ }
 {
     if aligned(w, a) {
         if translated {
@@ -136,7 +136,7 @@ pub fn write(
 }
 
 fn fetch_walked(m: &mut [u8], journal: &mut [u64; 201], stb: u32, user: bool, a: u32) -> u64
-    ensures { λ r. ⌜ gave (answerOf r) (journaled (now (m .exit)) (now (journal .exit))) ≡ followed (fetches (regimeFor stb user true) a) (walk user stb kind.Fetch (a / 2 * 2) (now (m .entry))) (journaled (now (m .entry)) (now (journal .entry))) ⌝ }
+    ensures { λ r. ⌜ Follows r m journal (fetches (regimeFor stb user true) a) (walk user stb kind.Fetch (a / 2 * 2) (now (m .entry))) ⌝ }
 {
     let x = translate(m, user, stb, Kind::Fetch, a / 2 * 2);
     match x {
@@ -158,7 +158,7 @@ pub fn fetch(
     translated: bool,
     a: u32,
 ) -> u64
-    ensures { λ r. ⌜ gave (answerOf r) (journaled (now (m .exit)) (now (journal .exit))) ≡ logging (fetches (regimeFor stb user translated) a) (journaled (now (m .entry)) (now (journal .entry))) ⌝ }
+    ensures { λ r. ⌜ Answers r m journal (fetches (regimeFor stb user translated) a) ⌝ }
 {
     if translated {
         fetch_walked(m, journal, stb, user, a)
@@ -169,7 +169,7 @@ pub fn fetch(
 
 // Whether stores at a are valid: nothing is recorded, and a bad one is a read fault.
 pub fn probe(m: &[u8], stb: u32, user: bool, translated: bool, a: u32) -> u64
-    ensures { λ r. ⌜ gave (answerOf r) (onlyMemory (now (m .entry))) ≡ logging (probes (regimeFor stb user translated) a) (onlyMemory (now (m .entry))) ⌝ }
+    ensures { λ r. ⌜ AnswersReadOnly r m [] (probes (regimeFor stb user translated) a) ⌝ }
 {
     if translated {
         let x = translate(m, user, stb, Kind::Write, a);

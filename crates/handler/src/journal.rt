@@ -5,6 +5,7 @@ ghost use mathlib.Core.Path.{_≡_};
 ghost use Prim.Native.Nat.{min};
 ghost use lib.ListN.{set};
 ghost use Rattle.program.specs.Journal.{journaled, count, room, note as noteOf, entryNote, restored, undo as undoOf};
+ghost use Rattle.program.specs.Contracts.{exitWorld};
 ghost use Rattle.mmu.specs.Walk.{recorded};
 
 // The word at a, as it is.
@@ -24,7 +25,7 @@ pub fn note(m: &[u8], journal: &mut [u64; 201], a: u32)
 
 // The recording bits of the page entry at p, noted if one changes.
 pub fn record_entry(m: &mut [u8], journal: &mut [u64; 201], k: Kind, p: u32)
-    ensures { λ r. ⌜ journaled (now (m .exit)) (now (journal .exit)) ≡ journaled (recorded k p (now (m .entry))) (entryNote k p (now (m .entry)) (now (journal .entry))) ⌝ }
+    ensures { λ r. ⌜ exitWorld m journal ≡ journaled (recorded k p (now (m .entry))) (entryNote k p (now (m .entry)) (now (journal .entry))) ⌝ }
 {
     if mmu::recording::is_fresh(m, k, p) {
         note(m, journal, p);

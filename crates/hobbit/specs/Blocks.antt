@@ -2,10 +2,12 @@
 -- Assumes nothing.
 use Prim.Native.Nat.{ℕ}
 use mathlib.Core.List.{List}
+use denote.Ref.{now}
 use Rattle.machine.specs.Registers.{Bank}
 use Rattle.machine.specs.Cache.{quadsOf, flatOf}
 use Rattle.machine.specs.Status.{cpu}
 use Rattle.memory.specs.Bytes.{Memory}
+use Rattle.program.specs.Contracts.{Lent}
 use Rattle.run.specs.Run.{Board, board, Ended}
 use Rattle.runs.specs.Code.{Advanced}
 use Rattle.hobbit.specs.declared.HobbitAnswer.{HobbitAnswer}
@@ -18,6 +20,10 @@ interface = 1
 abbrev pub boardIn : List ℕ → List ℕ → Memory → Board
 boardIn r c m = board (cpu r (quadsOf c)) m
 
+-- as they were lent
+abbrev pub entryBoardIn : Lent (List ℕ) → Lent (List ℕ) → Lent Memory → Board
+entryBoardIn r c m = boardIn (now (r .entry)) (now (c .entry)) (now (m .entry))
+
 -- the blocks that hold a board
 pub record Blocks : Type 0 where
   pub registers : Bank
@@ -29,6 +35,10 @@ blocks r c m = record { registers = r; cache = c; memory = m }
 
 abbrev pub blocksOf : Board → Blocks
 blocksOf s = blocks (s .cpu .bank) (flatOf (s .cpu .cache)) (s .memory)
+
+-- the lent ones, as they are left
+abbrev pub exitBlocks : Lent Bank → Lent (List ℕ) → Lent Memory → Blocks
+exitBlocks r c m = blocks (now (r .exit)) (now (c .exit)) (now (m .exit))
 
 -- a run's answer, with the blocks that it left
 pub record RunAnswer : Type 0 where

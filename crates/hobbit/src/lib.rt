@@ -16,7 +16,7 @@ ghost use Rattle.machine.specs.Status.{cpu};
 ghost use Rattle.machine.specs.Record.{zeroCache, reading, readingOf};
 ghost use Rattle.run.specs.Run.{run as runOf};
 ghost use Rattle.runs.specs.Code.{oneStep};
-ghost use Rattle.hobbit.specs.Blocks.{interface, boardIn, blocks, runAnswer, endedIn, stepAnswer, advancedIn};
+ghost use Rattle.hobbit.specs.Blocks.{interface, runAnswer, endedIn, stepAnswer, advancedIn, exitBlocks, entryBoardIn};
 
 const INTERFACE: u32 = 1;
 
@@ -46,7 +46,7 @@ pub extern "C" fn hobbit_run(
     budget: u32,
     level: u32,
 ) -> HobbitAnswer
-    ensures { λ x. ⌜ runAnswer x (blocks (now (registers .exit)) (now (cache .exit)) (now (memory .exit))) ≡ endedIn (runOf confined budget level (boardIn (now (registers .entry)) (now (cache .entry)) (now (memory .entry)))) ⌝ }
+    ensures { λ x. ⌜ runAnswer x (exitBlocks registers cache memory) ≡ endedIn (runOf confined budget level (entryBoardIn registers cache memory)) ⌝ }
 {
     let mut q = quads(*cache);
     let x = run_lent(memory, &mut q, registers, confined, budget, level);
@@ -66,7 +66,7 @@ pub extern "C" fn hobbit_step(
     cache: &mut [u32; 64],
     level: u32,
 ) -> u32
-    ensures { λ x. ⌜ stepAnswer x (blocks (now (registers .exit)) (now (cache .exit)) (now (memory .exit))) ≡ advancedIn (oneStep level (boardIn (now (registers .entry)) (now (cache .entry)) (now (memory .entry)))) ⌝ }
+    ensures { λ x. ⌜ stepAnswer x (exitBlocks registers cache memory) ≡ advancedIn (oneStep level (entryBoardIn registers cache memory)) ⌝ }
 {
     let mut q = quads(*cache);
     let x = run_lent(memory, &mut q, registers, false, 1, level);

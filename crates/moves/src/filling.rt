@@ -9,18 +9,18 @@ use word::sums::minus;
 use word::sums::plus;
 ghost use mathlib.Core.Path.{_≡_};
 ghost use mathlib.Core.Bool.{true};
-ghost use Prim.Native.Nat.{ℕ, _+_, _%_, _^_, _<_};
+ghost use Prim.Native.Nat.{_+_, _%_, _^_, _<_};
 ghost use Rattle.word.specs.declared.Width.the-variants as width;
 ghost use Rattle.memory.specs.Answers.{answerOf};
 ghost use Rattle.mmu.specs.declared.Kind.the-variants as kind;
-ghost use Rattle.program.specs.Access.{gave, read as reads};
-ghost use Rattle.program.specs.Program.{interpret};
-ghost use Rattle.program.specs.Journal.{Journal, journaled, logging};
-ghost use Rattle.machine.specs.Status.{cpu};
+ghost use Rattle.program.specs.Access.{read as reads};
+ghost use Rattle.program.specs.Journal.{Journal};
+ghost use Rattle.program.specs.Contracts.{AnswersReadOnly, InterpretsReadOnly};
 ghost use Rattle.handler.specs.Followed.{regimeFor};
 ghost use Rattle.handler.specs.Quads.{Quad};
 ghost use Rattle.access.specs.Code.{ended};
 ghost use Rattle.access.specs.Moves.{fillQuad, mayFill, fill as fillOf};
+ghost use Rattle.access.specs.Contracts.{entryCpu, Ends};
 
 // The quad-word at a word by word, and MSP up past it; one whose read faults changes no word of the cache.
 fn fill_words(
@@ -33,7 +33,7 @@ fn fill_words(
     translated: bool,
     a: u32,
 ) -> u64
-    ensures { λ x. ⌜ gave (ended (answerOf x) (now (r .exit)) (now (q .exit))) (journaled (now (m .exit)) (now (journal .exit))) ≡ interpret logging (fillQuad (cpu (now (r .entry)) (now (q .entry))) (regimeFor stb user translated) a) (journaled (now (m .entry)) (now (journal .entry))) ⌝ }
+    ensures { λ x. ⌜ Ends x m journal q r (λ c. fillQuad c (regimeFor stb user translated) a) ⌝ }
 {
     let x0 = read(m, journal, Width::Word, stb, user, translated, a);
     if 0x1_0000_0000 <= x0 {
@@ -68,7 +68,7 @@ fn fill_words(
 // alone.)
 fn read_beside(m: &[u8], stb: u32, user: bool, a: u32, pa: u32, i: u32) -> u64
     requires { ⌜ Quad user stb kind.Read a (now m) pa × (i < 16) × (i % 4 ≡ 0) ⌝ }
-    ensures { λ x. ⌜ ((j : Journal) → gave (answerOf x) (journaled (now (m .entry)) j) ≡ logging (reads (regimeFor stb user true) width.Word (a + i)) (journaled (now (m .entry)) j)) × (x < 2 ^ 32) ⌝ }
+    ensures { λ x. ⌜ ((j : Journal) → AnswersReadOnly x m j (reads (regimeFor stb user true) width.Word (a + i))) × (x < 2 ^ 32) ⌝ }
 {
     load_word(m, pa + i)
 }
@@ -84,7 +84,8 @@ fn fill_found(
     pa: u32,
 ) -> u64
     requires { ⌜ Quad user stb kind.Read a (now m) pa ⌝ }
-    ensures { λ x. ⌜ ((j : Journal) → gave (ended (answerOf x) (now (r .exit)) (now (q .exit))) (journaled (now (m .entry)) j) ≡ interpret logging (fillQuad (cpu (now (r .entry)) (now (q .entry))) (regimeFor stb user true) a) (journaled (now (m .entry)) j)) ⌝ }
+    ensures { λ x. ⌜ ((j : Journal)
+        → InterpretsReadOnly (ended (answerOf x) (now (r .exit)) (now (q .exit))) m j (fillQuad (entryCpu q r) (regimeFor stb user true) a)) ⌝ }
 {
     let x0 = read_beside(m, stb, user, a, pa, 0);
     let x1 = read_beside(m, stb, user, a, pa, 4);
@@ -107,7 +108,7 @@ fn fill_quad(
     translated: bool,
     a: u32,
 ) -> u64
-    ensures { λ x. ⌜ gave (ended (answerOf x) (now (r .exit)) (now (q .exit))) (journaled (now (m .exit)) (now (journal .exit))) ≡ interpret logging (fillQuad (cpu (now (r .entry)) (now (q .entry))) (regimeFor stb user translated) a) (journaled (now (m .entry)) (now (journal .entry))) ⌝ }
+    ensures { λ x. ⌜ Ends x m journal q r (λ c. fillQuad c (regimeFor stb user translated) a) ⌝ }
 {
     if translated {
         let x = fill_place(m, stb, user, a);
@@ -136,7 +137,7 @@ pub fn fill(
     translated: bool,
     target: u32,
 ) -> u64
-    ensures { λ x. ⌜ gave (ended (answerOf x) (now (r .exit)) (now (q .exit))) (journaled (now (m .exit)) (now (journal .exit))) ≡ interpret logging (fillOf (regimeFor stb user translated) target 16 (cpu (now (r .entry)) (now (q .entry)))) (journaled (now (m .entry)) (now (journal .entry))) ⌝ }
+    ensures { λ x. ⌜ Ends x m journal q r (λ c. fillOf (regimeFor stb user translated) target 16 c) ⌝ }
 {
     let mut x: u64 = 0;
     let mut n: u32 = 16;

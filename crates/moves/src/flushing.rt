@@ -16,9 +16,8 @@ ghost use Prim.Native.Nat.{_+_, _%_, _^_, _<_};
 ghost use Rattle.word.specs.declared.Width.the-variants as width;
 ghost use Rattle.memory.specs.Answers.{answerOf};
 ghost use Rattle.mmu.specs.declared.Kind.the-variants as kind;
-ghost use Rattle.program.specs.Access.{gave, write as writes};
-ghost use Rattle.program.specs.Program.{interpret};
-ghost use Rattle.program.specs.Journal.{journaled, logging};
+ghost use Rattle.program.specs.Access.{write as writes};
+ghost use Rattle.program.specs.Contracts.{Answers, Interprets};
 ghost use Rattle.machine.specs.Registers.{Bank};
 ghost use Rattle.machine.specs.Status.{cpu, regime};
 ghost use Rattle.handler.specs.Followed.{regimeFor};
@@ -26,6 +25,7 @@ ghost use Rattle.handler.specs.Quads.{Quad};
 ghost use Rattle.access.specs.Parts.{replied};
 ghost use Rattle.access.specs.Code.{ended};
 ghost use Rattle.access.specs.Moves.{flushWord, flushQuad, mayFlush, flush as flushOf};
+ghost use Rattle.access.specs.Contracts.{entryCpu, Ends};
 
 fn flush_word(
     m: &mut [u8],
@@ -34,7 +34,7 @@ fn flush_word(
     r: &[u32; 17],
     a: u32,
 ) -> u64
-    ensures { λ x. ⌜ gave (replied (cpu (now (r .entry)) (now (q .entry))) a (answerOf x)) (journaled (now (m .exit)) (now (journal .exit))) ≡ interpret logging (flushWord (cpu (now (r .entry)) (now (q .entry))) a) (journaled (now (m .entry)) (now (journal .entry))) ⌝ }
+    ensures { λ x. ⌜ Interprets (replied (entryCpu q r) a (answerOf x)) m journal (flushWord (entryCpu q r) a) ⌝ }
 {
     let v = cache_word(q, a);
     handler::accesses::write(
@@ -57,7 +57,7 @@ fn flush_words(
     r: &mut [u32; 17],
     a: u32,
 ) -> u64
-    ensures { λ x. ⌜ gave (ended (answerOf x) (now (r .exit)) (now (q .entry))) (journaled (now (m .exit)) (now (journal .exit))) ≡ interpret logging (flushQuad (cpu (now (r .entry)) (now (q .entry))) a) (journaled (now (m .entry)) (now (journal .entry))) ⌝ }
+    ensures { λ x. ⌜ Ends x m journal q r (λ c. flushQuad c a) ⌝ }
 {
     let x0 = flush_word(m, journal, q, r, a);
     if 0x1_0000_0000 <= x0 {
@@ -98,7 +98,8 @@ fn write_beside(
     v: u32,
 ) -> u64
     requires { ⌜ Quad user stb kind.Write a (now m) pa × (i < 16) × (i % 4 ≡ 0) ⌝ }
-    ensures { λ x. ⌜ (gave (answerOf x) (journaled (now (m .exit)) (now (journal .exit))) ≡ logging (writes (regimeFor stb user true) width.Word (a + i) v) (journaled (now (m .entry)) (now (journal .entry)))) × Quad user stb kind.Write a (now (m .exit)) pa × (x < 2 ^ 32) ⌝ }
+    ensures { λ x. ⌜ Answers x m journal (writes (regimeFor stb user true) width.Word (a + i) v)
+        × Quad user stb kind.Write a (now (m .exit)) pa × (x < 2 ^ 32) ⌝ }
 {
     store_noted(m, journal, Width::Word, pa + i, v)
 }
@@ -114,7 +115,8 @@ fn flush_found(
     pa: u32,
 ) -> u64
     requires { ⌜ Quad user stb kind.Write a (now m) pa ⌝ }
-    ensures { λ x. ⌜ ((b : Bank) → regime b ≡ regimeFor stb user true → gave (ended (answerOf x) (set b 4 a) (now (q .entry))) (journaled (now (m .exit)) (now (journal .exit))) ≡ interpret logging (flushQuad (cpu b (now (q .entry))) a) (journaled (now (m .entry)) (now (journal .entry)))) ⌝ }
+    ensures { λ x. ⌜ ((b : Bank) → regime b ≡ regimeFor stb user true
+        → Interprets (ended (answerOf x) (set b 4 a) (now (q .entry))) m journal (flushQuad (cpu b (now (q .entry))) a)) ⌝ }
 {
     let v0 = cache_word(q, a);
     let x0 = write_beside(m, journal, stb, user, a, pa, 0, v0);
@@ -134,7 +136,7 @@ fn flush_quad(
     r: &mut [u32; 17],
     a: u32,
 ) -> u64
-    ensures { λ x. ⌜ gave (ended (answerOf x) (now (r .exit)) (now (q .entry))) (journaled (now (m .exit)) (now (journal .exit))) ≡ interpret logging (flushQuad (cpu (now (r .entry)) (now (q .entry))) a) (journaled (now (m .entry)) (now (journal .entry))) ⌝ }
+    ensures { λ x. ⌜ Ends x m journal q r (λ c. flushQuad c a) ⌝ }
 {
     let translated = is_virtual(r);
     let stb = r[9];
@@ -166,7 +168,7 @@ pub fn flush(
     all: bool,
     target: u32,
 ) -> u64
-    ensures { λ x. ⌜ gave (ended (answerOf x) (now (r .exit)) (now (q .entry))) (journaled (now (m .exit)) (now (journal .exit))) ≡ interpret logging (flushOf all target 16 (cpu (now (r .entry)) (now (q .entry)))) (journaled (now (m .entry)) (now (journal .entry))) ⌝ }
+    ensures { λ x. ⌜ Ends x m journal q r (λ c. flushOf all target 16 c) ⌝ }
 {
     let mut x: u64 = 0;
     let mut n: u32 = 16;

@@ -1,17 +1,22 @@
 -- What the code's answers say of operands, in the definitions' types.
 -- Assumes nothing.
 use Prim.Native.Nat.{ℕ}
+use denote.Ref.{now}
 use mathlib.Core.Bool.{Bool, true, false, cond}
-use Rattle.memory.specs.Answers.{Answer, got, bad}
+use Rattle.memory.specs.Answers.{Answer, got, bad, answerOf}
+use Rattle.memory.specs.Bytes.{Memory}
 use Rattle.isa.specs.declared.Mode.{Mode}
 use Rattle.isa.specs.declared.Operand.{Operand}
 use Rattle.isa.specs.declared.Operand.the-variants.{General, Register}
 use Rattle.program.specs.Program.{Program, ret}
+use Rattle.program.specs.Journal.{Journal}
+use Rattle.program.specs.Contracts.{Lent, unchanged, unlessFaulted, Continues}
 use Rattle.machine.specs.Registers.{Bank, registerOf}
 use Rattle.machine.specs.Cache.{Cache}
 use Rattle.machine.specs.Status.{Cpu, cpu}
 use Rattle.access.specs.Parts.{Out, stop}
 use Rattle.access.specs.Code.{giving}
+use Rattle.access.specs.Contracts.{entryCpu}
 use Rattle.exec.specs.Operands.{Kind, absolute, offset, indirect, constant, kindOf, Place, inMemory, inRegister, literal}
 
 abbrev pub isConstant : Kind → Bool
@@ -35,3 +40,10 @@ placed o x b q = giving (placeAt o) x b q
 abbrev pub resumed : (ℕ → Program (Out Cpu)) → Answer → Bank → Cache → Program (Out Cpu)
 resumed f (got v) b q = f v
 resumed f (bad e) b q = ret (stop e (cpu b q))
+
+-- the code did what comes before a rest f of the type K: p is the whole, k what is left once x, the last value, is known; x
+-- may be an exception, and else the registers are as they were
+abbrev pub Resumes : (K : Type 0) → ℕ → Lent Memory → Lent Journal → Lent Cache → Lent Bank → (K → ℕ → Program (Out Cpu)) → (Cpu → K → Program (Out Cpu)) → Type 0
+Resumes K x m j q r k p =
+    ((f : K) → Continues (resumed (k f) (answerOf x) (now (r .exit)) (now (q .exit))) m j (p (entryCpu q r) f))
+    × unlessFaulted x (unchanged r)

@@ -17,16 +17,10 @@ use memory::answers::good;
 use memory::answers::low32;
 use word::Width;
 ghost use mathlib.Core.Path.{_≡_};
-ghost use Prim.Native.Nat.{_<_, _^_};
-ghost use Rattle.memory.specs.Answers.{answerOf};
-ghost use Rattle.program.specs.Access.{gave};
-ghost use Rattle.program.specs.Program.{interpret};
-ghost use Rattle.program.specs.Journal.{journaled, logging};
-ghost use Rattle.machine.specs.Status.{cpu};
 ghost use Rattle.isa.specs.declared.Operand.the-variants as operand;
-ghost use Rattle.access.specs.Code.{valued, ended};
+ghost use Rattle.access.specs.Contracts.{Ends, YieldsAs, Yields};
 ghost use Rattle.exec.specs.Operands.{kindOf, located, locate, inMemory, readPlace, readOperand, writePlace};
-ghost use Rattle.operands.specs.Code.{isConstant, generalAt, placeAt, placed};
+ghost use Rattle.operands.specs.Code.{isConstant, generalAt, placeAt};
 
 // Whether a mode's operand is in the instruction.
 pub fn is_constant(mode: Mode) -> bool
@@ -51,7 +45,7 @@ fn locate_general(
     mode: Mode,
     v: u32,
 ) -> u64
-    ensures { λ x. ⌜ (gave (placed (operand.General mode v) (answerOf x) (now (r .exit)) (now (q .entry))) (journaled (now (m .exit)) (now (journal .exit))) ≡ interpret logging (located (cpu (now (r .entry)) (now (q .entry))) wide (kindOf mode) mode v) (journaled (now (m .entry)) (now (journal .entry)))) × (x < 2 ^ 32 → now (r .exit) ≡ now (r .entry)) ⌝ }
+    ensures { λ x. ⌜ YieldsAs (placeAt (operand.General mode v)) x m journal q r (λ c. located c wide (kindOf mode) mode v) ⌝ }
 {
     let k = kind_of(mode);
     match k {
@@ -74,7 +68,7 @@ pub fn locate_at(
     wide: Wide,
     o: Operand,
 ) -> u64
-    ensures { λ x. ⌜ (gave (placed o (answerOf x) (now (r .exit)) (now (q .entry))) (journaled (now (m .exit)) (now (journal .exit))) ≡ interpret logging (locate (cpu (now (r .entry)) (now (q .entry))) wide o) (journaled (now (m .entry)) (now (journal .entry)))) × (x < 2 ^ 32 → now (r .exit) ≡ now (r .entry)) ⌝ }
+    ensures { λ x. ⌜ YieldsAs (placeAt o) x m journal q r (λ c. locate c wide o) ⌝ }
 {
     match o {
         Operand::General(mode, v) => locate_general(m, journal, q, r, wide, mode, v),
@@ -91,7 +85,7 @@ fn read_expanded(
     mode: Mode,
     a: u32,
 ) -> u64
-    ensures { λ x. ⌜ (gave (valued (answerOf x) (now (r .exit)) (now (q .entry))) (journaled (now (m .exit)) (now (journal .exit))) ≡ interpret logging (readPlace (cpu (now (r .entry)) (now (q .entry))) (inMemory mode a)) (journaled (now (m .entry)) (now (journal .entry)))) × (x < 2 ^ 32 → now (r .exit) ≡ now (r .entry)) ⌝ }
+    ensures { λ x. ⌜ Yields x m journal q r (λ c. readPlace c (inMemory mode a)) ⌝ }
 {
     let x = load(m, journal, q, r, width_of(mode), a);
     if 0x1_0000_0000 <= x {
@@ -111,7 +105,7 @@ fn read_general(
     v: u32,
     a: u32,
 ) -> u64
-    ensures { λ x. ⌜ (gave (valued (answerOf x) (now (r .exit)) (now (q .entry))) (journaled (now (m .exit)) (now (journal .exit))) ≡ interpret logging (readPlace (cpu (now (r .entry)) (now (q .entry))) (generalAt (kindOf mode) mode v a)) (journaled (now (m .entry)) (now (journal .entry)))) × (x < 2 ^ 32 → now (r .exit) ≡ now (r .entry)) ⌝ }
+    ensures { λ x. ⌜ Yields x m journal q r (λ c. readPlace c (generalAt (kindOf mode) mode v a)) ⌝ }
 {
     if is_constant(mode) {
         good(v)
@@ -129,7 +123,7 @@ pub fn read_at(
     o: Operand,
     a: u32,
 ) -> u64
-    ensures { λ x. ⌜ (gave (valued (answerOf x) (now (r .exit)) (now (q .entry))) (journaled (now (m .exit)) (now (journal .exit))) ≡ interpret logging (readPlace (cpu (now (r .entry)) (now (q .entry))) (placeAt o a)) (journaled (now (m .entry)) (now (journal .entry)))) × (x < 2 ^ 32 → now (r .exit) ≡ now (r .entry)) ⌝ }
+    ensures { λ x. ⌜ Yields x m journal q r (λ c. readPlace c (placeAt o a)) ⌝ }
 {
     match o {
         Operand::General(mode, v) => read_general(m, journal, q, r, mode, v, a),
@@ -146,7 +140,7 @@ pub fn read_operand(
     wide: Wide,
     o: Operand,
 ) -> u64
-    ensures { λ x. ⌜ (gave (valued (answerOf x) (now (r .exit)) (now (q .entry))) (journaled (now (m .exit)) (now (journal .exit))) ≡ interpret logging (readOperand (cpu (now (r .entry)) (now (q .entry))) wide o) (journaled (now (m .entry)) (now (journal .entry)))) × (x < 2 ^ 32 → now (r .exit) ≡ now (r .entry)) ⌝ }
+    ensures { λ x. ⌜ Yields x m journal q r (λ c. readOperand c wide o) ⌝ }
 {
     let a = locate_at(m, journal, q, r, wide, o);
     if 0x1_0000_0000 <= a {
@@ -167,7 +161,7 @@ fn write_general(
     a: u32,
     v: u32,
 ) -> u64
-    ensures { λ x. ⌜ gave (ended (answerOf x) (now (r .exit)) (now (q .exit))) (journaled (now (m .exit)) (now (journal .exit))) ≡ interpret logging (writePlace (cpu (now (r .entry)) (now (q .entry))) (generalAt (kindOf mode) mode held a) v) (journaled (now (m .entry)) (now (journal .entry))) ⌝ }
+    ensures { λ x. ⌜ Ends x m journal q r (λ c. writePlace c (generalAt (kindOf mode) mode held a) v) ⌝ }
 {
     if is_constant(mode) {
         good(0)
@@ -186,7 +180,7 @@ pub fn write_at(
     a: u32,
     v: u32,
 ) -> u64
-    ensures { λ x. ⌜ gave (ended (answerOf x) (now (r .exit)) (now (q .exit))) (journaled (now (m .exit)) (now (journal .exit))) ≡ interpret logging (writePlace (cpu (now (r .entry)) (now (q .entry))) (placeAt o a) v) (journaled (now (m .entry)) (now (journal .entry))) ⌝ }
+    ensures { λ x. ⌜ Ends x m journal q r (λ c. writePlace c (placeAt o a) v) ⌝ }
 {
     match o {
         Operand::General(mode, x) => write_general(m, journal, q, r, mode, x, a, v),

@@ -4,15 +4,14 @@ use word::sums::plus;
 ghost use mathlib.Core.Path.{_≡_};
 ghost use Prim.Native.Nat.{_%_, _≤_};
 ghost use Rattle.bits.specs.Bits.{fieldOf};
-ghost use Rattle.machine.specs.Cache.{Cache};
-ghost use Rattle.machine.specs.Status.{cpu};
+ghost use Rattle.access.specs.Contracts.{Becomes};
 ghost use Rattle.step.specs.Events.{dueOf, looked as lookedOf};
 ghost use Rattle.step.specs.Step.{traceFalls};
 ghost use Rattle.pending.specs.Dues.{dueCode, quietOf, eventFrom, takenOf, vectorOf};
 
 // A look that finds another level ends the wait of input 0.
 pub fn looked(b: &mut [u32; 17], level: u32)
-    ensures { λ r. ⌜ ((q : Cache) → cpu (now (b .exit)) q ≡ lookedOf level (cpu (now (b .entry)) q)) ⌝ }
+    ensures { λ r. ⌜ Becomes b (lookedOf level) ⌝ }
 {
     if level != 0 {
         b[16] = 0;
@@ -21,7 +20,7 @@ pub fn looked(b: &mut [u32; 17], level: u32)
 
 // A trace falls due.
 pub fn trace_falls(b: &mut [u32; 17], on: bool)
-    ensures { λ r. ⌜ ((q : Cache) → cpu (now (b .exit)) q ≡ traceFalls on (cpu (now (b .entry)) q)) ⌝ }
+    ensures { λ r. ⌜ Becomes b (traceFalls on) ⌝ }
 {
     if on {
         b[13] = 1;
@@ -97,7 +96,7 @@ pub fn vector_of(code: u32) -> u32
 // The trace, or input 0.
 fn low_taken(b: &mut [u32; 17], code: u32)
     requires { ⌜ code ≤ 16 ⌝ }
-    ensures { λ r. ⌜ ((q : Cache) → cpu (now (b .exit)) q ≡ takenOf (eventFrom code) (cpu (now (b .entry)) q)) ⌝ }
+    ensures { λ r. ⌜ Becomes b (takenOf (eventFrom code)) ⌝ }
 {
     if code == 2 {
         b[13] = 0;
@@ -108,7 +107,7 @@ fn low_taken(b: &mut [u32; 17], code: u32)
 
 // What is taken is no longer due.
 pub fn taken(b: &mut [u32; 17], code: u32)
-    ensures { λ r. ⌜ ((q : Cache) → cpu (now (b .exit)) q ≡ takenOf (eventFrom code) (cpu (now (b .entry)) q)) ⌝ }
+    ensures { λ r. ⌜ Becomes b (takenOf (eventFrom code)) ⌝ }
 {
     if code == 0x17 {
         b[14] = 0;

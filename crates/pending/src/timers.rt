@@ -4,8 +4,7 @@ use bits::field;
 use word::sums::plus;
 ghost use mathlib.Core.Path.{_≡_};
 ghost use Rattle.machine.specs.Registers.{timer1, timer2, timer1Due, timer2Due};
-ghost use Rattle.machine.specs.Cache.{Cache};
-ghost use Rattle.machine.specs.Status.{cpu};
+ghost use Rattle.access.specs.Contracts.{Becomes};
 ghost use Rattle.step.specs.Timers.{counts1 as counts1Of, counts2 as counts2Of, ticked, counted as countedOf};
 ghost use Rattle.pending.specs.Counts.{firstCounted, secondCounted};
 
@@ -25,7 +24,7 @@ fn counts2(config: u32, kernel: bool, completed: bool) -> bool
 
 // Timer1 by one; on says whether its interrupt is.
 fn tick1(b: &mut [u32; 17], on: bool)
-    ensures { λ r. ⌜ ((q : Cache) → cpu (now (b .exit)) q ≡ ticked (cpu (now (b .entry)) q) timer1 timer1Due on) ⌝ }
+    ensures { λ r. ⌜ Becomes b (λ c. ticked c timer1 timer1Due on) ⌝ }
 {
     let n = plus(b[10], 1);
     b[10] = n;
@@ -36,7 +35,7 @@ fn tick1(b: &mut [u32; 17], on: bool)
 
 // Timer2 by one.
 fn tick2(b: &mut [u32; 17], on: bool)
-    ensures { λ r. ⌜ ((q : Cache) → cpu (now (b .exit)) q ≡ ticked (cpu (now (b .entry)) q) timer2 timer2Due on) ⌝ }
+    ensures { λ r. ⌜ Becomes b (λ c. ticked c timer2 timer2Due on) ⌝ }
 {
     let n = plus(b[11], 1);
     b[11] = n;
@@ -47,7 +46,7 @@ fn tick2(b: &mut [u32; 17], on: bool)
 
 // Timer1, if it counts the step.
 fn count1(b: &mut [u32; 17], config: u32, kernel: bool, completed: bool)
-    ensures { λ r. ⌜ ((q : Cache) → cpu (now (b .exit)) q ≡ firstCounted config kernel completed (cpu (now (b .entry)) q)) ⌝ }
+    ensures { λ r. ⌜ Becomes b (firstCounted config kernel completed) ⌝ }
 {
     if counts1(config, kernel, completed) {
         tick1(b, bit(config, 24));
@@ -56,7 +55,7 @@ fn count1(b: &mut [u32; 17], config: u32, kernel: bool, completed: bool)
 
 // Timer2, if it counts the step.
 fn count2(b: &mut [u32; 17], config: u32, kernel: bool, completed: bool)
-    ensures { λ r. ⌜ ((q : Cache) → cpu (now (b .exit)) q ≡ secondCounted config kernel completed (cpu (now (b .entry)) q)) ⌝ }
+    ensures { λ r. ⌜ Becomes b (secondCounted config kernel completed) ⌝ }
 {
     if counts2(config, kernel, completed) {
         tick2(b, bit(config, 31));
@@ -65,7 +64,7 @@ fn count2(b: &mut [u32; 17], config: u32, kernel: bool, completed: bool)
 
 // Both, by the CONFIG and the level that the step began with.
 pub fn counted(b: &mut [u32; 17], config: u32, kernel: bool, completed: bool)
-    ensures { λ r. ⌜ ((q : Cache) → cpu (now (b .exit)) q ≡ countedOf config kernel completed (cpu (now (b .entry)) q)) ⌝ }
+    ensures { λ r. ⌜ Becomes b (countedOf config kernel completed) ⌝ }
 {
     count1(b, config, kernel, completed);
     count2(b, config, kernel, completed);

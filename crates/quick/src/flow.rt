@@ -22,15 +22,17 @@ use word::sums::minus;
 use word::sums::plus;
 ghost use mathlib.Core.Path.{_≡_};
 ghost use mathlib.Core.Bool.{true, false};
-ghost use Rattle.machine.specs.Cache.{Cache};
-ghost use Rattle.machine.specs.Status.{cpu};
+ghost use Rattle.program.specs.Contracts.{unchanged, IfElse};
 ghost use Rattle.access.specs.Parts.{done};
+ghost use Rattle.access.specs.Contracts.{entryCpu, exitCpu, Becomes};
 ghost use Rattle.exec.specs.Control.{jump as jumpOf, jumpIf, call as callOf, return as returnOf, released as releasedOf, advanced as advancedOf};
 ghost use Rattle.exec.specs.Stack.{enter as enterOf, catch as catchOf};
 ghost use Rattle.exec.specs.Execute.{oneOperand, executeMonadic};
 ghost use Rattle.step.specs.Step.{holdsStack};
 ghost use Rattle.run.specs.Run.{isKcall};
-ghost use Rattle.quick_dyadic.specs.Quick.{gives, isRelative};
+ghost use Rattle.quick_dyadic.specs.Quick.{isRelative};
+ghost use Rattle.quick_dyadic.specs.Contracts.{Gives, StackAsBefore};
+ghost use Rattle.quick.specs.Contracts.{DoneAnyCache, GivesAnyCache, StackAsBeforeAnyCache, StackHeldAnyCache};
 
 fn is_relative(m: MonadicMode) -> bool
     ensures { λ x. ⌜ x ≡ isRelative m ⌝ }
@@ -49,7 +51,7 @@ fn is_relative(m: MonadicMode) -> bool
 
 // JMP.
 fn jump(r: &mut [u32; 17], mode: MonadicMode, v: u32) -> bool
-    ensures { λ z. ⌜ (z ≡ true → ((q : Cache) → jumpOf (cpu (now (r .entry)) q) mode v ≡ done (cpu (now (r .exit)) q)) × ((q : Cache) → holdsStack (cpu (now (r .exit)) q) ≡ holdsStack (cpu (now (r .entry)) q))) × (z ≡ false → now (r .exit) ≡ now (r .entry)) ⌝ }
+    ensures { λ z. ⌜ IfElse z (DoneAnyCache r (λ c. jumpOf c mode v) × StackAsBeforeAnyCache r) (unchanged r) ⌝ }
 {
     if is_relative(mode) {
         let a = plus(r[5], v);
@@ -61,7 +63,7 @@ fn jump(r: &mut [u32; 17], mode: MonadicMode, v: u32) -> bool
 
 // JMPT and JMPF.
 fn jump_if(r: &mut [u32; 17], taken: bool, mode: MonadicMode, v: u32, n: u32) -> bool
-    ensures { λ z. ⌜ (z ≡ true → ((q : Cache) → jumpIf taken (cpu (now (r .entry)) q) mode v n ≡ done (cpu (now (r .exit)) q)) × ((q : Cache) → holdsStack (cpu (now (r .exit)) q) ≡ holdsStack (cpu (now (r .entry)) q))) × (z ≡ false → now (r .exit) ≡ now (r .entry)) ⌝ }
+    ensures { λ z. ⌜ IfElse z (DoneAnyCache r (λ c. jumpIf taken c mode v n) × StackAsBeforeAnyCache r) (unchanged r) ⌝ }
 {
     if taken {
         return jump(r, mode, v);
@@ -72,7 +74,7 @@ fn jump_if(r: &mut [u32; 17], taken: bool, mode: MonadicMode, v: u32, n: u32) ->
 
 // CALL.
 fn call(q: &mut [[u32; 4]; 16], r: &mut [u32; 17], mode: MonadicMode, v: u32, n: u32) -> bool
-    ensures { λ z. ⌜ (z ≡ true → (callOf (cpu (now (r .entry)) (now (q .entry))) mode v n ≡ done (cpu (now (r .exit)) (now (q .exit)))) × (holdsStack (cpu (now (r .exit)) (now (q .exit))) ≡ holdsStack (cpu (now (r .entry)) (now (q .entry))))) × (z ≡ false → (now (r .exit) ≡ now (r .entry)) × (now (q .exit) ≡ now (q .entry))) ⌝ }
+    ensures { λ z. ⌜ IfElse z ((callOf (entryCpu q r) mode v n ≡ done (exitCpu q r)) × StackAsBefore q r) (unchanged r × unchanged q) ⌝ }
 {
     let s = r[8];
     if is_relative(mode) {
@@ -90,7 +92,7 @@ fn call(q: &mut [[u32; 4]; 16], r: &mut [u32; 17], mode: MonadicMode, v: u32, n:
 
 // RETURN; one that would lose its stack is left to the step that refuses it.
 fn return_quiet(m: &[u8], q: &[[u32; 4]; 16], r: &mut [u32; 17], v: u32) -> bool
-    ensures { λ z. ⌜ (z ≡ true → gives (returnOf (cpu (now (r .entry)) (now (q .entry))) v) (now (m .entry)) (cpu (now (r .exit)) (now (q .entry))) (now (m .entry)) × (holdsStack (cpu (now (r .exit)) (now (q .entry))) ≡ true)) × (z ≡ false → now (r .exit) ≡ now (r .entry)) ⌝ }
+    ensures { λ z. ⌜ IfElse z (Gives m q r (λ c. returnOf c v) × (holdsStack (exitCpu q r) ≡ true)) (unchanged r) ⌝ }
 {
     let kept = *r;
     let a = stack_address(r, v);
@@ -108,7 +110,7 @@ fn return_quiet(m: &[u8], q: &[[u32; 4]; 16], r: &mut [u32; 17], v: u32) -> bool
 
 // POPN, likewise.
 fn pop(r: &mut [u32; 17], v: u32, n: u32) -> bool
-    ensures { λ z. ⌜ (z ≡ true → ((q : Cache) → cpu (now (r .exit)) q ≡ advancedOf (releasedOf (cpu (now (r .entry)) q) v) n) × ((q : Cache) → holdsStack (cpu (now (r .exit)) q) ≡ true)) × (z ≡ false → now (r .exit) ≡ now (r .entry)) ⌝ }
+    ensures { λ z. ⌜ IfElse z (Becomes r (λ c. advancedOf (releasedOf c v) n) × StackHeldAnyCache r) (unchanged r) ⌝ }
 {
     let kept = *r;
     released(r, v);
@@ -122,7 +124,7 @@ fn pop(r: &mut [u32; 17], v: u32, n: u32) -> bool
 
 // CATCH whose words the cache holds already: nothing is filled.
 fn catch(r: &mut [u32; 17], mode: MonadicMode, v: u32, n: u32) -> bool
-    ensures { λ z. ⌜ (z ≡ true → ((q : Cache) → catchOf (cpu (now (r .entry)) q) mode v n ≡ done (cpu (now (r .exit)) q)) × ((q : Cache) → holdsStack (cpu (now (r .exit)) q) ≡ holdsStack (cpu (now (r .entry)) q))) × (z ≡ false → now (r .exit) ≡ now (r .entry)) ⌝ }
+    ensures { λ z. ⌜ IfElse z (DoneAnyCache r (λ c. catchOf c mode v n) × StackAsBeforeAnyCache r) (unchanged r) ⌝ }
 {
     if is_stack(mode) {
         if cache_on(r) {
@@ -137,7 +139,7 @@ fn catch(r: &mut [u32; 17], mode: MonadicMode, v: u32, n: u32) -> bool
 
 // ENTER with room in the cache: nothing is flushed, and the target is checked.
 fn enter(m: &[u8], r: &mut [u32; 17], mode: MonadicMode, v: u32, n: u32) -> bool
-    ensures { λ z. ⌜ (z ≡ true → ((q : Cache) → gives (enterOf (cpu (now (r .entry)) q) mode v n) (now (m .entry)) (cpu (now (r .exit)) q) (now (m .entry))) × ((q : Cache) → holdsStack (cpu (now (r .exit)) q) ≡ true)) × (z ≡ false → now (r .exit) ≡ now (r .entry)) ⌝ }
+    ensures { λ z. ⌜ IfElse z (GivesAnyCache m r (λ c. enterOf c mode v n) × StackHeldAnyCache r) (unchanged r) ⌝ }
 {
     let kept = *r;
     let a = stack_address(r, v) / 16 * 16;
@@ -170,7 +172,10 @@ pub(crate) fn quick_one(
     v: u32,
     n: u32,
 ) -> bool
-    ensures { λ z. ⌜ (z ≡ true → gives (executeMonadic (cpu (now (r .entry)) (now (q .entry))) o mode v n) (now (m .entry)) (cpu (now (r .exit)) (now (q .exit))) (now (m .entry)) × (isKcall (oneOperand o mode v) ≡ false) × (holdsStack (cpu (now (r .entry)) (now (q .entry))) ≡ true → holdsStack (cpu (now (r .exit)) (now (q .exit))) ≡ true)) × (z ≡ false → (now (r .exit) ≡ now (r .entry)) × (now (q .exit) ≡ now (q .entry))) ⌝ }
+    ensures { λ z. ⌜ IfElse z
+        (Gives m q r (λ c. executeMonadic c o mode v n) × (isKcall (oneOperand o mode v) ≡ false)
+        × (holdsStack (entryCpu q r) ≡ true → holdsStack (exitCpu q r) ≡ true))
+        (unchanged r × unchanged q) ⌝ }
 {
     let flag = bit(r[6], 4);
     match o {

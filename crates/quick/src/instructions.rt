@@ -6,14 +6,14 @@ use crate::texts::plan_at;
 use crate::texts::text_place;
 use plans::Plan;
 use quick_dyadic::two::quick_two;
-ghost use mathlib.Core.Path.{_≡_};
-ghost use mathlib.Core.Bool.{true, false};
-ghost use Rattle.machine.specs.Status.{cpu};
+ghost use Rattle.program.specs.Contracts.{IfElse};
+ghost use Rattle.access.specs.Contracts.{entryCpu, exitCpu};
+ghost use Rattle.quick_dyadic.specs.Contracts.{AllUnchanged};
 ghost use Rattle.quick.specs.Performed.{Executed, Performed};
 
 // A plan of n parcels.
 fn perform(m: &mut [u8], q: &mut [[u32; 4]; 16], r: &mut [u32; 17], n: u32, plan: Plan) -> bool
-    ensures { λ z. ⌜ (z ≡ true → Executed plan n (cpu (now (r .entry)) (now (q .entry))) (now (m .entry)) (cpu (now (r .exit)) (now (q .exit))) (now (m .exit))) × (z ≡ false → (now (m .exit) ≡ now (m .entry)) × (now (r .exit) ≡ now (r .entry)) × (now (q .exit) ≡ now (q .entry))) ⌝ }
+    ensures { λ z. ⌜ IfElse z (Executed plan n (entryCpu q r) (now (m .entry)) (exitCpu q r) (now (m .exit))) (AllUnchanged m q r) ⌝ }
 {
     match plan {
         Plan::Two(wide, t, a, s, b, d) => quick_two(m, q, r, n, wide, t, a, s, b, d),
@@ -24,7 +24,7 @@ fn perform(m: &mut [u8], q: &mut [[u32; 4]; 16], r: &mut [u32; 17], n: u32, plan
 
 // The instruction at PC, unless a prefix stands there.
 pub(crate) fn quick_attempt(m: &mut [u8], q: &mut [[u32; 4]; 16], r: &mut [u32; 17]) -> bool
-    ensures { λ z. ⌜ (z ≡ true → Performed (cpu (now (r .entry)) (now (q .entry))) (now (m .entry)) (cpu (now (r .exit)) (now (q .exit))) (now (m .exit))) × (z ≡ false → (now (m .exit) ≡ now (m .entry)) × (now (r .exit) ≡ now (r .entry)) × (now (q .exit) ≡ now (q .entry))) ⌝ }
+    ensures { λ z. ⌜ IfElse z (Performed (entryCpu q r) (now (m .entry)) (exitCpu q r) (now (m .exit))) (AllUnchanged m q r) ⌝ }
 {
     let pc = r[5];
     let x = text_place(m, r, pc);

@@ -18,7 +18,8 @@ ghost use Rattle.quick.specs.Performed.{parcelAt, textAt, lengthAt};
 
 // The place of the ten bytes from the address a, if they lie in one page and in memory; else 2^32.
 pub(crate) fn text_place(m: &[u8], r: &[u32; 17], a: u32) -> u64
-    ensures { λ x. ⌜ (x < 2 ^ 32 → Quiet (regime (now (r .entry))) kind.Fetch a (now (m .entry)) x × (a % 2 ≡ 0) × (a % 0x1000 + 10 ≤ 0x1000) × (a < 2 ^ 32) × (x + 10 ≤ length (now (m .entry)))) ⌝ }
+    ensures { λ x. ⌜ (x < 2 ^ 32 → Quiet (regime (now (r .entry))) kind.Fetch a (now (m .entry)) x
+        × (a % 2 ≡ 0) × (a % 0x1000 + 10 ≤ 0x1000) × (a < 2 ^ 32) × (x + 10 ≤ length (now (m .entry)))) ⌝ }
 {
     if a % 2 == 0 {
         if a % 0x1000 <= 0xFF6 {

@@ -6,9 +6,11 @@ use machine::status::is_user;
 use pending::events::due_code;
 use pending::timers::counted;
 ghost use mathlib.Core.Path.{_≡_};
-ghost use mathlib.Core.Bool.{Bool, true, false};
-ghost use Rattle.machine.specs.Status.{cpu};
-ghost use Rattle.run.specs.Run.{board, goes, turnOf};
+ghost use mathlib.Core.Bool.{Bool, true};
+ghost use Rattle.program.specs.Contracts.{IfElse};
+ghost use Rattle.run.specs.Run.{goes, turnOf};
+ghost use Rattle.run.specs.Boards.{entryBoard, exitBoard};
+ghost use Rattle.quick_dyadic.specs.Contracts.{AllUnchanged};
 ghost use Rattle.quick.specs.Performed.{Calm};
 
 // Whether a look changes nothing and finds nothing due, no instruction is traced, and the stack is held.
@@ -35,7 +37,7 @@ fn is_calm(r: &[u32; 17], level: u32) -> bool
 
 // The turn, if it goes this way.
 pub fn quick_turn(m: &mut [u8], q: &mut [[u32; 4]; 16], r: &mut [u32; 17], level: u32) -> bool
-    ensures { λ z. ⌜ (z ≡ true → (confined : Bool) → turnOf confined level (board (cpu (now (r .entry)) (now (q .entry))) (now (m .entry))) ≡ goes (board (cpu (now (r .exit)) (now (q .exit))) (now (m .exit)))) × (z ≡ false → (now (m .exit) ≡ now (m .entry)) × (now (r .exit) ≡ now (r .entry)) × (now (q .exit) ≡ now (q .entry))) ⌝ }
+    ensures { λ z. ⌜ IfElse z ((confined : Bool) → turnOf confined level (entryBoard m q r) ≡ goes (exitBoard m q r)) (AllUnchanged m q r) ⌝ }
 {
     if !is_calm(r, level) {
         return false;

@@ -15,13 +15,14 @@ use memory::places::place;
 use memory::stores::store;
 use word::Width;
 ghost use mathlib.Core.Path.{_≡_};
-ghost use mathlib.Core.Bool.{true, false};
 ghost use Prim.Native.Nat.{_^_, _<_};
 ghost use Rattle.memory.specs.Answers.{got};
 ghost use Rattle.program.specs.Access.{gave, access, read as reads, write as writes};
-ghost use Rattle.machine.specs.Status.{cpu, regime};
+ghost use Rattle.program.specs.Contracts.{unchanged, IfElse};
+ghost use Rattle.machine.specs.Status.{regime};
 ghost use Rattle.access.specs.Data.{readData, writeData};
-ghost use Rattle.quick_dyadic.specs.Quick.{gives};
+ghost use Rattle.access.specs.Contracts.{entryCpu};
+ghost use Rattle.quick_dyadic.specs.Contracts.{Gives, GivesReadOnly};
 
 // An operand in memory, at its place p; 2^32 or more where the access does not go.
 fn read_far(m: &[u8], r: &[u32; 17], w: Width, p: u32) -> u64
@@ -39,7 +40,7 @@ fn read_far(m: &[u8], r: &[u32; 17], w: Width, p: u32) -> u64
 
 // An operand as an unsigned number; 2^32 or more where the access does not go.
 pub fn quiet_read(m: &[u8], q: &[[u32; 4]; 16], r: &[u32; 17], w: Width, a: u32) -> u64
-    ensures { λ x. ⌜ (x < 2 ^ 32 → gives (readData (cpu (now (r .entry)) (now (q .entry))) w a) (now (m .entry)) x (now (m .entry))) ⌝ }
+    ensures { λ x. ⌜ (x < 2 ^ 32 → GivesReadOnly x m (readData (entryCpu q r) w a)) ⌝ }
 {
     let p = place(is_little(r), w, a);
     if !cached(r, a) {
@@ -53,7 +54,7 @@ pub fn quiet_read(m: &[u8], q: &[[u32; 4]; 16], r: &[u32; 17], w: Width, a: u32)
 
 // The low bytes of v to memory, at the place p.
 fn store_far(m: &mut [u8], r: &[u32; 17], w: Width, p: u32, v: u32) -> bool
-    ensures { λ x. ⌜ (x ≡ true → access (writes (regime (now (r .entry))) w p v) (now (m .entry)) ≡ gave (got 0) (now (m .exit))) × (x ≡ false → now (m .exit) ≡ now (m .entry)) ⌝ }
+    ensures { λ x. ⌜ IfElse x (access (writes (regime (now (r .entry))) w p v) (now (m .entry)) ≡ gave (got 0) (now (m .exit))) (unchanged m) ⌝ }
 {
     if !aligned(w, p) {
         return false;
@@ -78,7 +79,7 @@ pub(crate) fn quiet_store(
     a: u32,
     v: u32,
 ) -> bool
-    ensures { λ x. ⌜ (x ≡ true → gives (writeData (cpu (now (r .entry)) (now (q .entry))) w a v) (now (m .entry)) (cpu (now (r .entry)) (now (q .exit))) (now (m .exit))) × (x ≡ false → (now (m .exit) ≡ now (m .entry)) × (now (q .exit) ≡ now (q .entry))) ⌝ }
+    ensures { λ x. ⌜ IfElse x (Gives m q r (λ c. writeData c w a v)) (unchanged m × unchanged q) ⌝ }
 {
     let p = place(is_little(r), w, a);
     if !cached(r, a) {

@@ -18,18 +18,19 @@ use memory::answers::low32;
 use operands::places::is_constant;
 use word::Width;
 ghost use mathlib.Core.Path.{_≡_};
-ghost use mathlib.Core.Bool.{true, false};
+ghost use mathlib.Core.Bool.{true};
 ghost use mathlib.Core.List.{[]};
-ghost use Prim.Native.Nat.{ℕ, _%_, _^_, _<_};
-ghost use Rattle.isa.specs.declared.Mode.the-variants as mode;
+ghost use Prim.Native.Nat.{_%_, _^_, _<_};
 ghost use Rattle.isa.specs.declared.Operand.the-variants as operand;
 ghost use Rattle.isa.specs.declared.Wide.{Wide};
+ghost use Rattle.program.specs.Contracts.{unchanged, IfElse};
 ghost use Rattle.machine.specs.Status.{cpu, cached as cachedOf};
 ghost use Rattle.access.specs.Parts.{done};
+ghost use Rattle.access.specs.Contracts.{entryCpu};
 ghost use Rattle.exec.specs.declared.Task.the-variants as task;
 ghost use Rattle.exec.specs.Operands.{stackAddress, readOperand};
-ghost use Rattle.step.specs.Step.{holdsStack};
-ghost use Rattle.quick_dyadic.specs.Quick.{isStackWord, isQuick, rest};
+ghost use Rattle.quick_dyadic.specs.Quick.{isStackWord, isQuick};
+ghost use Rattle.quick_dyadic.specs.Contracts.{StackAsBefore, RestDone};
 
 // The address of the word at a stack offset, if the cache holds it; else 2^32.
 pub(crate) fn near_address(r: &[u32; 17], v: u32) -> u64
@@ -69,7 +70,7 @@ pub(crate) fn is_stack_word(m: Mode) -> bool
 
 // A source that is a constant or such a word; else 2^32.
 pub(crate) fn near_source(q: &[[u32; 4]; 16], r: &[u32; 17], m: Mode, v: u32) -> u64
-    ensures { λ x. ⌜ (x < 2 ^ 32 → (w : Wide) → readOperand (cpu (now (r .entry)) (now (q .entry))) w (operand.General m v) ≡ done x) ⌝ }
+    ensures { λ x. ⌜ (x < 2 ^ 32 → (w : Wide) → readOperand (entryCpu q r) w (operand.General m v) ≡ done x) ⌝ }
 {
     if is_constant(m) {
         return good(v);
@@ -86,7 +87,7 @@ pub(crate) fn near_source(q: &[[u32; 4]; 16], r: &[u32; 17], m: Mode, v: u32) ->
 // ADD and its kind, to the word at a: the result goes there.
 fn near_compute(q: &mut [[u32; 4]; 16], r: &mut [u32; 17], op: Operation, a: u32, x: u32) -> bool
     requires { ⌜ (cachedOf (now r) a ≡ true) × (a % 4 ≡ 0) ⌝ }
-    ensures { λ z. ⌜ (z ≡ true → ((w : Wide) (d : ℕ) → a ≡ stackAddress (cpu (now (r .entry)) []) d → rest (cpu (now (r .entry)) (now (q .entry))) w (task.Compute op) (operand.General mode.StackWord d) x ≡ done (cpu (now (r .exit)) (now (q .exit)))) × (holdsStack (cpu (now (r .exit)) (now (q .exit))) ≡ holdsStack (cpu (now (r .entry)) (now (q .entry))))) × (z ≡ false → (now (r .exit) ≡ now (r .entry)) × (now (q .exit) ≡ now (q .entry))) ⌝ }
+    ensures { λ z. ⌜ IfElse z (RestDone (task.Compute op) a x q r × StackAsBefore q r) (unchanged r × unchanged q) ⌝ }
 {
     if divides(op) & (x == 0) {
         return false;
@@ -101,7 +102,7 @@ fn near_compute(q: &mut [[u32; 4]; 16], r: &mut [u32; 17], op: Operation, a: u32
 // ADD3 and its kind: the result goes to the accumulator.
 fn near_accumulate(q: &mut [[u32; 4]; 16], r: &mut [u32; 17], op: Operation, a: u32, x: u32) -> bool
     requires { ⌜ (cachedOf (now r) a ≡ true) × (a % 4 ≡ 0) ⌝ }
-    ensures { λ z. ⌜ (z ≡ true → ((w : Wide) (d : ℕ) → a ≡ stackAddress (cpu (now (r .entry)) []) d → rest (cpu (now (r .entry)) (now (q .entry))) w (task.Accumulate op) (operand.General mode.StackWord d) x ≡ done (cpu (now (r .exit)) (now (q .exit)))) × (holdsStack (cpu (now (r .exit)) (now (q .exit))) ≡ holdsStack (cpu (now (r .entry)) (now (q .entry))))) × (z ≡ false → (now (r .exit) ≡ now (r .entry)) × (now (q .exit) ≡ now (q .entry))) ⌝ }
+    ensures { λ z. ⌜ IfElse z (RestDone (task.Accumulate op) a x q r × StackAsBefore q r) (unchanged r × unchanged q) ⌝ }
 {
     if divides(op) & (x == 0) {
         return false;
@@ -120,7 +121,7 @@ fn near_accumulate(q: &mut [[u32; 4]; 16], r: &mut [u32; 17], op: Operation, a: 
 // CMP.
 fn near_compare(q: &[[u32; 4]; 16], r: &mut [u32; 17], relation: Relation, a: u32, x: u32)
     requires { ⌜ (cachedOf (now r) a ≡ true) × (a % 4 ≡ 0) ⌝ }
-    ensures { λ _. ⌜ ((w : Wide) (d : ℕ) → a ≡ stackAddress (cpu (now (r .entry)) []) d → rest (cpu (now (r .entry)) (now (q .entry))) w (task.Compare relation) (operand.General mode.StackWord d) x ≡ done (cpu (now (r .exit)) (now (q .entry)))) × (holdsStack (cpu (now (r .exit)) (now (q .entry))) ≡ holdsStack (cpu (now (r .entry)) (now (q .entry)))) ⌝ }
+    ensures { λ _. ⌜ RestDone (task.Compare relation) a x q r × StackAsBefore q r ⌝ }
 {
     let y = cache_read(Width::Word, q, a);
     with_flag(r, related(relation, x, y));
@@ -129,7 +130,7 @@ fn near_compare(q: &[[u32; 4]; 16], r: &mut [u32; 17], relation: Relation, a: u3
 // What is left of a task with the source x, the destination such a word, at a.
 pub(crate) fn near_rest(q: &mut [[u32; 4]; 16], r: &mut [u32; 17], t: Task, a: u32, x: u32) -> bool
     requires { ⌜ (cachedOf (now r) a ≡ true) × (a % 4 ≡ 0) ⌝ }
-    ensures { λ z. ⌜ (z ≡ true → (isQuick t ≡ true) × ((w : Wide) (d : ℕ) → a ≡ stackAddress (cpu (now (r .entry)) []) d → rest (cpu (now (r .entry)) (now (q .entry))) w t (operand.General mode.StackWord d) x ≡ done (cpu (now (r .exit)) (now (q .exit)))) × (holdsStack (cpu (now (r .exit)) (now (q .exit))) ≡ holdsStack (cpu (now (r .entry)) (now (q .entry))))) × (z ≡ false → (now (r .exit) ≡ now (r .entry)) × (now (q .exit) ≡ now (q .entry))) ⌝ }
+    ensures { λ z. ⌜ IfElse z ((isQuick t ≡ true) × RestDone t a x q r × StackAsBefore q r) (unchanged r × unchanged q) ⌝ }
 {
     match t {
         Task::Compute(op) => near_compute(q, r, op, a, x),

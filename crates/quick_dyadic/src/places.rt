@@ -13,14 +13,13 @@ use memory::answers::good;
 use memory::answers::low32;
 use operands::places::is_constant;
 use word::Width;
-ghost use mathlib.Core.Path.{_≡_};
-ghost use mathlib.Core.Bool.{true, false};
 ghost use Prim.Native.Nat.{_^_, _<_};
 ghost use Rattle.isa.specs.declared.Operand.the-variants as operand;
-ghost use Rattle.machine.specs.Status.{cpu};
+ghost use Rattle.program.specs.Contracts.{unchanged, IfElse};
+ghost use Rattle.access.specs.Contracts.{entryCpu};
 ghost use Rattle.exec.specs.Operands.{kindOf, locate, readPlace, writePlace};
 ghost use Rattle.operands.specs.Code.{generalAt, placeAt};
-ghost use Rattle.quick_dyadic.specs.Quick.{gives};
+ghost use Rattle.quick_dyadic.specs.Contracts.{Gives, GivesReadOnly};
 
 // The address of an operand; 2^32 or more where its indirection word is not read.
 pub(crate) fn quiet_address(
@@ -31,7 +30,7 @@ pub(crate) fn quiet_address(
     mode: Mode,
     v: u32,
 ) -> u64
-    ensures { λ x. ⌜ (x < 2 ^ 32 → gives (locate (cpu (now (r .entry)) (now (q .entry))) wide (operand.General mode v)) (now (m .entry)) (placeAt (operand.General mode v) x) (now (m .entry))) ⌝ }
+    ensures { λ x. ⌜ (x < 2 ^ 32 → GivesReadOnly (placeAt (operand.General mode v) x) m (locate (entryCpu q r) wide (operand.General mode v))) ⌝ }
 {
     let k = kind_of(mode);
     match k {
@@ -54,7 +53,7 @@ pub(crate) fn quiet_value(
     v: u32,
     a: u32,
 ) -> u64
-    ensures { λ x. ⌜ (x < 2 ^ 32 → gives (readPlace (cpu (now (r .entry)) (now (q .entry))) (generalAt (kindOf mode) mode v a)) (now (m .entry)) x (now (m .entry))) ⌝ }
+    ensures { λ x. ⌜ (x < 2 ^ 32 → GivesReadOnly x m (readPlace (entryCpu q r) (generalAt (kindOf mode) mode v a))) ⌝ }
 {
     if is_constant(mode) {
         return good(v);
@@ -76,7 +75,7 @@ pub(crate) fn quiet_put(
     a: u32,
     v: u32,
 ) -> bool
-    ensures { λ x. ⌜ (x ≡ true → gives (writePlace (cpu (now (r .entry)) (now (q .entry))) (generalAt (kindOf mode) mode held a) v) (now (m .entry)) (cpu (now (r .entry)) (now (q .exit))) (now (m .exit))) × (x ≡ false → (now (m .exit) ≡ now (m .entry)) × (now (q .exit) ≡ now (q .entry))) ⌝ }
+    ensures { λ x. ⌜ IfElse x (Gives m q r (λ c. writePlace c (generalAt (kindOf mode) mode held a) v)) (unchanged m × unchanged q) ⌝ }
 {
     if is_constant(mode) {
         return true;

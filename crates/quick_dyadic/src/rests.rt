@@ -18,13 +18,13 @@ use isa::Wide;
 use memory::answers::low32;
 use word::Width;
 ghost use mathlib.Core.Path.{_≡_};
-ghost use mathlib.Core.Bool.{true, false};
+ghost use mathlib.Core.Bool.{true};
 ghost use Rattle.isa.specs.declared.Operand.the-variants as operand;
-ghost use Rattle.machine.specs.Status.{cpu};
+ghost use Rattle.program.specs.Contracts.{unchanged, IfElse};
 ghost use Rattle.exec.specs.Operands.{kindOf};
 ghost use Rattle.operands.specs.Code.{generalAt};
-ghost use Rattle.step.specs.Step.{holdsStack};
-ghost use Rattle.quick_dyadic.specs.Quick.{gives, isQuick, computeAt, accumulateAt, compareAt, rest};
+ghost use Rattle.quick_dyadic.specs.Quick.{isQuick, computeAt, accumulateAt, compareAt, rest};
+ghost use Rattle.quick_dyadic.specs.Contracts.{Gives, QuickEnds, StackAsBefore, AllUnchanged};
 
 // ADD and its kind, to a destination found at a.
 fn compute_at(
@@ -37,7 +37,7 @@ fn compute_at(
     a: u32,
     x: u32,
 ) -> bool
-    ensures { λ z. ⌜ (z ≡ true → gives (computeAt (cpu (now (r .entry)) (now (q .entry))) op (generalAt (kindOf mode) mode d a) x) (now (m .entry)) (cpu (now (r .exit)) (now (q .exit))) (now (m .exit)) × (holdsStack (cpu (now (r .exit)) (now (q .exit))) ≡ holdsStack (cpu (now (r .entry)) (now (q .entry))))) × (z ≡ false → (now (m .exit) ≡ now (m .entry)) × (now (r .exit) ≡ now (r .entry)) × (now (q .exit) ≡ now (q .entry))) ⌝ }
+    ensures { λ z. ⌜ QuickEnds z m q r (λ c. computeAt c op (generalAt (kindOf mode) mode d a) x) ⌝ }
 {
     if divides(op) & (x == 0) {
         return false;
@@ -66,7 +66,7 @@ fn accumulate_at(
     a: u32,
     x: u32,
 ) -> bool
-    ensures { λ z. ⌜ (z ≡ true → gives (accumulateAt (cpu (now (r .entry)) (now (q .entry))) op (generalAt (kindOf mode) mode d a) x) (now (m .entry)) (cpu (now (r .exit)) (now (q .exit))) (now (m .exit)) × (holdsStack (cpu (now (r .exit)) (now (q .exit))) ≡ holdsStack (cpu (now (r .entry)) (now (q .entry))))) × (z ≡ false → (now (m .exit) ≡ now (m .entry)) × (now (r .exit) ≡ now (r .entry)) × (now (q .exit) ≡ now (q .entry))) ⌝ }
+    ensures { λ z. ⌜ QuickEnds z m q r (λ c. accumulateAt c op (generalAt (kindOf mode) mode d a) x) ⌝ }
 {
     if divides(op) & (x == 0) {
         return false;
@@ -96,7 +96,7 @@ fn compare_at(
     a: u32,
     x: u32,
 ) -> bool
-    ensures { λ z. ⌜ (z ≡ true → gives (compareAt (cpu (now (r .entry)) (now (q .entry))) relation (generalAt (kindOf mode) mode d a) x) (now (m .entry)) (cpu (now (r .exit)) (now (q .entry))) (now (m .entry)) × (holdsStack (cpu (now (r .exit)) (now (q .entry))) ≡ holdsStack (cpu (now (r .entry)) (now (q .entry))))) × (z ≡ false → now (r .exit) ≡ now (r .entry)) ⌝ }
+    ensures { λ z. ⌜ IfElse z (Gives m q r (λ c. compareAt c relation (generalAt (kindOf mode) mode d a) x) × StackAsBefore q r) (unchanged r) ⌝ }
 {
     let y = quiet_value(m, q, r, mode, d, a);
     if 0x1_0000_0000 <= y {
@@ -117,7 +117,7 @@ pub(crate) fn quiet_rest(
     d: u32,
     x: u32,
 ) -> bool
-    ensures { λ z. ⌜ (z ≡ true → (isQuick t ≡ true) × gives (rest (cpu (now (r .entry)) (now (q .entry))) wide t (operand.General mode d) x) (now (m .entry)) (cpu (now (r .exit)) (now (q .exit))) (now (m .exit)) × (holdsStack (cpu (now (r .exit)) (now (q .exit))) ≡ holdsStack (cpu (now (r .entry)) (now (q .entry))))) × (z ≡ false → (now (m .exit) ≡ now (m .entry)) × (now (r .exit) ≡ now (r .entry)) × (now (q .exit) ≡ now (q .entry))) ⌝ }
+    ensures { λ z. ⌜ IfElse z ((isQuick t ≡ true) × Gives m q r (λ c. rest c wide t (operand.General mode d) x) × StackAsBefore q r) (AllUnchanged m q r) ⌝ }
 {
     let k = quiet_address(m, q, r, wide, mode, d);
     if 0x1_0000_0000 <= k {

@@ -12,18 +12,19 @@ use isa::Mode;
 use isa::Wide;
 use memory::answers::low32;
 ghost use mathlib.Core.Path.{_≡_};
-ghost use mathlib.Core.Bool.{true, false};
+ghost use mathlib.Core.Bool.{true};
 ghost use Prim.Native.Nat.{_^_, _<_};
 ghost use Rattle.isa.specs.declared.Operand.the-variants as operand;
-ghost use Rattle.machine.specs.Status.{cpu};
+ghost use Rattle.program.specs.Contracts.{IfElse};
+ghost use Rattle.access.specs.Contracts.{entryCpu};
 ghost use Rattle.exec.specs.Operands.{readOperand};
 ghost use Rattle.exec.specs.Execute.{twoOperands, executeNormal};
-ghost use Rattle.step.specs.Step.{holdsStack};
-ghost use Rattle.quick_dyadic.specs.Quick.{gives, isQuick, rest};
+ghost use Rattle.quick_dyadic.specs.Quick.{isQuick, rest};
+ghost use Rattle.quick_dyadic.specs.Contracts.{Gives, GivesReadOnly, QuickEnds, StackAsBefore, AllUnchanged};
 
 // A source anywhere in memory; 2^32 or more where it is not read.
 fn far_source(m: &[u8], q: &[[u32; 4]; 16], r: &[u32; 17], wide: Wide, mode: Mode, v: u32) -> u64
-    ensures { λ x. ⌜ (x < 2 ^ 32 → gives (readOperand (cpu (now (r .entry)) (now (q .entry))) wide (operand.General mode v)) (now (m .entry)) x (now (m .entry))) ⌝ }
+    ensures { λ x. ⌜ (x < 2 ^ 32 → GivesReadOnly x m (readOperand (entryCpu q r) wide (operand.General mode v))) ⌝ }
 {
     let k = quiet_address(m, q, r, wide, mode, v);
     if 0x1_0000_0000 <= k {
@@ -34,7 +35,7 @@ fn far_source(m: &[u8], q: &[[u32; 4]; 16], r: &[u32; 17], wide: Wide, mode: Mod
 
 // The source's value; 2^32 or more where it is not read.
 fn source(m: &[u8], q: &[[u32; 4]; 16], r: &[u32; 17], wide: Wide, mode: Mode, v: u32) -> u64
-    ensures { λ x. ⌜ (x < 2 ^ 32 → gives (readOperand (cpu (now (r .entry)) (now (q .entry))) wide (operand.General mode v)) (now (m .entry)) x (now (m .entry))) ⌝ }
+    ensures { λ x. ⌜ (x < 2 ^ 32 → GivesReadOnly x m (readOperand (entryCpu q r) wide (operand.General mode v))) ⌝ }
 {
     let x = near_source(q, r, mode, v);
     if x < 0x1_0000_0000 {
@@ -54,7 +55,7 @@ fn finish(
     d: u32,
     x: u32,
 ) -> bool
-    ensures { λ z. ⌜ (z ≡ true → (isQuick t ≡ true) × gives (rest (cpu (now (r .entry)) (now (q .entry))) wide t (operand.General mode d) x) (now (m .entry)) (cpu (now (r .exit)) (now (q .exit))) (now (m .exit)) × (holdsStack (cpu (now (r .exit)) (now (q .exit))) ≡ holdsStack (cpu (now (r .entry)) (now (q .entry))))) × (z ≡ false → (now (m .exit) ≡ now (m .entry)) × (now (r .exit) ≡ now (r .entry)) × (now (q .exit) ≡ now (q .entry))) ⌝ }
+    ensures { λ z. ⌜ IfElse z ((isQuick t ≡ true) × Gives m q r (λ c. rest c wide t (operand.General mode d) x) × StackAsBefore q r) (AllUnchanged m q r) ⌝ }
 {
     if is_stack_word(mode) {
         let a = near_address(r, d);
@@ -78,7 +79,7 @@ pub fn quick_two(
     dm: Mode,
     d: u32,
 ) -> bool
-    ensures { λ z. ⌜ (z ≡ true → gives (executeNormal (cpu (now (r .entry)) (now (q .entry))) n (twoOperands wide t (operand.General sm s) (operand.General dm d))) (now (m .entry)) (cpu (now (r .exit)) (now (q .exit))) (now (m .exit)) × (holdsStack (cpu (now (r .exit)) (now (q .exit))) ≡ holdsStack (cpu (now (r .entry)) (now (q .entry))))) × (z ≡ false → (now (m .exit) ≡ now (m .entry)) × (now (r .exit) ≡ now (r .entry)) × (now (q .exit) ≡ now (q .entry))) ⌝ }
+    ensures { λ z. ⌜ QuickEnds z m q r (λ c. executeNormal c n (twoOperands wide t (operand.General sm s) (operand.General dm d))) ⌝ }
 {
     let x = source(m, q, r, wide, sm, s);
     if 0x1_0000_0000 <= x {

@@ -17,6 +17,7 @@ ghost use Rattle.machine.specs.Status.{cpu};
 ghost use Rattle.machine.specs.Record.{cpuOf};
 ghost use Rattle.run.specs.Run.{board, turnOf, advance as advanceOf, refusal as refusalOf, run as runOf};
 ghost use Rattle.run.specs.Stopping.{stoppedAt};
+ghost use Rattle.run.specs.Boards.{entryBoard, exitBoard};
 ghost use Rattle.runs.specs.Code.{endedOf, advancedBy, oneStep};
 
 // Steps done, the stop and its code, with the machine that is left.
@@ -43,7 +44,7 @@ fn advance(
     level: u32,
 ) -> Stopped
     requires { ⌜ length (now m) % 4 ≡ 0 ⌝ }
-    ensures { λ x. ⌜ stoppedAt x (board (cpu (now (r .exit)) (now (q .exit))) (now (m .exit))) ≡ advanceOf (turnOf confined level) 0 budget (board (cpu (now (r .entry)) (now (q .entry))) (now (m .entry))) ⌝ }
+    ensures { λ x. ⌜ stoppedAt x (exitBoard m q r) ≡ advanceOf (turnOf confined level) 0 budget (entryBoard m q r) ⌝ }
 {
     let mut journal = [0u64; 201];
     let mut n = 0;
@@ -97,7 +98,7 @@ pub fn run_lent(
     budget: u32,
     level: u32,
 ) -> Stopped
-    ensures { λ x. ⌜ stoppedAt x (board (cpu (now (r .exit)) (now (q .exit))) (now (m .exit))) ≡ runOf confined budget level (board (cpu (now (r .entry)) (now (q .entry))) (now (m .entry))) ⌝ }
+    ensures { λ x. ⌜ stoppedAt x (exitBoard m q r) ≡ runOf confined budget level (entryBoard m q r) ⌝ }
 {
     let e = refusal(m, r, confined, level);
     if e != 0 {

@@ -19,11 +19,12 @@ ghost use Prim.Native.Nat.{_%_};
 ghost use lib.ListN.{length};
 ghost use Rattle.program.specs.Journal.{undo as undoOf};
 ghost use Rattle.machine.specs.Registers.{word, config};
-ghost use Rattle.machine.specs.Cache.{Cache};
-ghost use Rattle.machine.specs.Status.{cpu, isUser};
+ghost use Rattle.machine.specs.Status.{isUser};
+ghost use Rattle.access.specs.Contracts.{entryCpu, Becomes};
 ghost use Rattle.step.specs.Timers.{counted as countedOf};
 ghost use Rattle.step.specs.Step.{holdsStack};
 ghost use Rattle.run.specs.Run.{board, unlessLost, turn as turnFor, confinedTurn, turnOf};
+ghost use Rattle.run.specs.Boards.{entryBoard, exitBoard};
 ghost use Rattle.runs.specs.Code.{turned};
 
 // A turn that would end with x; one that loses its stack is refused with number 4 and leaves what was before it.
@@ -36,7 +37,9 @@ fn judge(
     cache: &[[u32; 4]; 16],
     x: u64,
 ) -> u64
-    ensures { λ y. ⌜ turned y (board (cpu (now (r .exit)) (now (q .exit))) (now (m .exit))) ≡ unlessLost (holdsStack (cpu (now (r .entry)) (now (q .entry)))) (board (cpu (now (bank .entry)) (now (cache .entry))) (undoOf (now (journal .entry)) (now (m .entry)))) (turned x (board (cpu (now (r .entry)) (now (q .entry))) (now (m .entry)))) ⌝ }
+    ensures { λ y. ⌜ turned y (exitBoard m q r)
+        ≡ unlessLost (holdsStack (entryCpu q r)) (board (entryCpu cache bank) (undoOf (now (journal .entry)) (now (m .entry))))
+        (turned x (entryBoard m q r)) ⌝ }
 {
     if stack_held(r[8], r[4]) {
         return x;
@@ -49,7 +52,7 @@ fn judge(
 
 // The timers, by the CONFIG and the level that the turn began with.
 fn count_turn(r: &mut [u32; 17], bank: &[u32; 17], completed: bool)
-    ensures { λ z. ⌜ ((q : Cache) → cpu (now (r .exit)) q ≡ countedOf (word (now (bank .entry)) config) (not (isUser (now (bank .entry)))) completed (cpu (now (r .entry)) q)) ⌝ }
+    ensures { λ z. ⌜ Becomes r (countedOf (word (now (bank .entry)) config) (not (isUser (now (bank .entry)))) completed) ⌝ }
 {
     let config = bank[0];
     counted(r, config, !is_user(bank), completed);
@@ -64,7 +67,7 @@ fn turn(
     level: u32,
 ) -> u64
     requires { ⌜ (length (now m) % 4 ≡ 0) × (length (now journal) ≡ 201) ⌝ }
-    ensures { λ y. ⌜ (turned y (board (cpu (now (r .exit)) (now (q .exit))) (now (m .exit))) ≡ turnFor level (board (cpu (now (r .entry)) (now (q .entry))) (now (m .entry)))) × (length (now (journal .exit)) ≡ 201) ⌝ }
+    ensures { λ y. ⌜ (turned y (exitBoard m q r) ≡ turnFor level (entryBoard m q r)) × (length (now (journal .exit)) ≡ 201) ⌝ }
 {
     let bank = *r;
     let cache = *q;
@@ -83,7 +86,7 @@ fn confined_turn(
     level: u32,
 ) -> u64
     requires { ⌜ (length (now m) % 4 ≡ 0) × (length (now journal) ≡ 201) ⌝ }
-    ensures { λ y. ⌜ (turned y (board (cpu (now (r .exit)) (now (q .exit))) (now (m .exit))) ≡ confinedTurn level (board (cpu (now (r .entry)) (now (q .entry))) (now (m .entry)))) × (length (now (journal .exit)) ≡ 201) ⌝ }
+    ensures { λ y. ⌜ (turned y (exitBoard m q r) ≡ confinedTurn level (entryBoard m q r)) × (length (now (journal .exit)) ≡ 201) ⌝ }
 {
     let bank = *r;
     let cache = *q;
@@ -127,7 +130,7 @@ pub(crate) fn take_turn(
     level: u32,
 ) -> u64
     requires { ⌜ (length (now m) % 4 ≡ 0) × (length (now journal) ≡ 201) ⌝ }
-    ensures { λ y. ⌜ (turned y (board (cpu (now (r .exit)) (now (q .exit))) (now (m .exit))) ≡ turnOf confined level (board (cpu (now (r .entry)) (now (q .entry))) (now (m .entry)))) × (length (now (journal .exit)) ≡ 201) ⌝ }
+    ensures { λ y. ⌜ (turned y (exitBoard m q r) ≡ turnOf confined level (entryBoard m q r)) × (length (now (journal .exit)) ≡ 201) ⌝ }
 {
     if quick_turn(m, q, r, level) {
         return 0;

@@ -4,13 +4,7 @@ use bank::flow::advanced;
 use bank::flow::released;
 use exec::Monadic;
 use isa::MonadicMode;
-ghost use mathlib.Core.Path.{_≡_};
-ghost use Rattle.memory.specs.Answers.{answerOf};
-ghost use Rattle.program.specs.Access.{gave};
-ghost use Rattle.program.specs.Program.{interpret};
-ghost use Rattle.program.specs.Journal.{journaled, logging};
-ghost use Rattle.machine.specs.Status.{cpu};
-ghost use Rattle.access.specs.Code.{ended};
+ghost use Rattle.access.specs.Contracts.{Ends};
 ghost use Rattle.exec.specs.Execute.{executeMonadic};
 
 // n is the parcels of the instruction.
@@ -24,7 +18,7 @@ pub fn execute_monadic(
     v: u32,
     n: u32,
 ) -> u64
-    ensures { λ x. ⌜ gave (ended (answerOf x) (now (r .exit)) (now (q .exit))) (journaled (now (m .exit)) (now (journal .exit))) ≡ interpret logging (executeMonadic (cpu (now (r .entry)) (now (q .entry))) o mode v n) (journaled (now (m .entry)) (now (journal .entry))) ⌝ }
+    ensures { λ x. ⌜ Ends x m journal q r (λ c. executeMonadic c o mode v n) ⌝ }
 {
     match o {
         Monadic::Kcall => frames::kernel::kcall(m, journal, q, r, mode, v, n),

@@ -5,20 +5,13 @@ use bank::status::with_guard;
 use exec::Niladic;
 use machine::status::is_user;
 use memory::answers::raised;
-ghost use mathlib.Core.Path.{_≡_};
-ghost use Rattle.memory.specs.Answers.{answerOf};
-ghost use Rattle.program.specs.Access.{gave};
-ghost use Rattle.program.specs.Program.{interpret};
-ghost use Rattle.program.specs.Journal.{journaled, logging};
-ghost use Rattle.machine.specs.Cache.{Cache};
-ghost use Rattle.machine.specs.Status.{cpu};
-ghost use Rattle.access.specs.Code.{ended};
+ghost use Rattle.access.specs.Contracts.{Ends, EndsAnyCache};
 ghost use Rattle.exec.specs.Frames.{kret, cret, privileged};
 ghost use Rattle.exec.specs.Execute.{executeNiladic};
 
 // At user level it is exception 5.
 fn kret_privileged(m: &mut [u8], journal: &mut [u64; 201], r: &mut [u32; 17]) -> u64
-    ensures { λ x. ⌜ ((q : Cache) → gave (ended (answerOf x) (now (r .exit)) q) (journaled (now (m .exit)) (now (journal .exit))) ≡ interpret logging (privileged (cpu (now (r .entry)) q) (kret (cpu (now (r .entry)) q))) (journaled (now (m .entry)) (now (journal .entry)))) ⌝ }
+    ensures { λ x. ⌜ EndsAnyCache x m journal r (λ c. privileged c (kret c)) ⌝ }
 {
     if is_user(r) {
         raised(5)
@@ -33,7 +26,7 @@ fn cret_privileged(
     q: &mut [[u32; 4]; 16],
     r: &mut [u32; 17],
 ) -> u64
-    ensures { λ x. ⌜ gave (ended (answerOf x) (now (r .exit)) (now (q .exit))) (journaled (now (m .exit)) (now (journal .exit))) ≡ interpret logging (privileged (cpu (now (r .entry)) (now (q .entry))) (cret (cpu (now (r .entry)) (now (q .entry))))) (journaled (now (m .entry)) (now (journal .entry))) ⌝ }
+    ensures { λ x. ⌜ Ends x m journal q r (λ c. privileged c (cret c)) ⌝ }
 {
     if is_user(r) {
         raised(5)
@@ -49,7 +42,7 @@ pub fn execute_niladic(
     r: &mut [u32; 17],
     o: Niladic,
 ) -> u64
-    ensures { λ x. ⌜ gave (ended (answerOf x) (now (r .exit)) (now (q .exit))) (journaled (now (m .exit)) (now (journal .exit))) ≡ interpret logging (executeNiladic (cpu (now (r .entry)) (now (q .entry))) o) (journaled (now (m .entry)) (now (journal .entry))) ⌝ }
+    ensures { λ x. ⌜ Ends x m journal q r (λ c. executeNiladic c o) ⌝ }
 {
     match o {
         Niladic::Kret => kret_privileged(m, journal, r),

@@ -9,16 +9,11 @@ use machine::status::is_virtual;
 use machine::status::sp_current;
 use memory::answers::low32;
 use moves::filling::fill;
-ghost use mathlib.Core.Path.{_≡_};
 ghost use mathlib.Core.Bool.{cond};
-ghost use Rattle.memory.specs.Answers.{answerOf};
-ghost use Rattle.program.specs.Access.{gave};
-ghost use Rattle.program.specs.Program.{interpret};
-ghost use Rattle.program.specs.Journal.{journaled, logging};
 ghost use Rattle.handler.specs.Followed.{regimeFor};
-ghost use Rattle.machine.specs.Status.{cpu, spCurrent};
+ghost use Rattle.machine.specs.Status.{spCurrent};
 ghost use Rattle.access.specs.Parts.{done};
-ghost use Rattle.access.specs.Code.{ended};
+ghost use Rattle.access.specs.Contracts.{Ends};
 ghost use Rattle.exec.specs.Stack.{catchTo, catchCurrent, catch as catchOf};
 
 // The cache is filled up to the target, in a regime given by its numbers.
@@ -32,7 +27,7 @@ pub fn catch_to(
     translated: bool,
     target: u32,
 ) -> u64
-    ensures { λ x. ⌜ gave (ended (answerOf x) (now (r .exit)) (now (q .exit))) (journaled (now (m .exit)) (now (journal .exit))) ≡ interpret logging (catchTo (cpu (now (r .entry)) (now (q .entry))) (regimeFor stb user translated) target) (journaled (now (m .entry)) (now (journal .entry))) ⌝ }
+    ensures { λ x. ⌜ Ends x m journal q r (λ c. catchTo c (regimeFor stb user translated) target) ⌝ }
 {
     let old = r[4];
     let x = fill(m, journal, q, r, stb, user, translated, target);
@@ -56,7 +51,7 @@ fn catch_current(
     mode: MonadicMode,
     v: u32,
 ) -> u64
-    ensures { λ x. ⌜ gave (ended (answerOf x) (now (r .exit)) (now (q .exit))) (journaled (now (m .exit)) (now (journal .exit))) ≡ interpret logging (catchCurrent (cpu (now (r .entry)) (now (q .entry))) mode v) (journaled (now (m .entry)) (now (journal .entry))) ⌝ }
+    ensures { λ x. ⌜ Ends x m journal q r (λ c. catchCurrent c mode v) ⌝ }
 {
     let x = stack_target(m, journal, q, r, mode, v);
     if 0x1_0000_0000 <= x {
@@ -83,7 +78,7 @@ fn catch_held(
     mode: MonadicMode,
     v: u32,
 ) -> u64
-    ensures { λ x. ⌜ gave (ended (answerOf x) (now (r .exit)) (now (q .exit))) (journaled (now (m .exit)) (now (journal .exit))) ≡ interpret logging (cond (spCurrent (now (r .entry))) (catchCurrent (cpu (now (r .entry)) (now (q .entry))) mode v) (done (cpu (now (r .entry)) (now (q .entry))))) (journaled (now (m .entry)) (now (journal .entry))) ⌝ }
+    ensures { λ x. ⌜ Ends x m journal q r (λ c. cond (spCurrent (c .bank)) (catchCurrent c mode v) (done c)) ⌝ }
 {
     if sp_current(r) {
         catch_current(m, journal, q, r, mode, v)
@@ -102,7 +97,7 @@ pub fn catch(
     v: u32,
     n: u32,
 ) -> u64
-    ensures { λ x. ⌜ gave (ended (answerOf x) (now (r .exit)) (now (q .exit))) (journaled (now (m .exit)) (now (journal .exit))) ≡ interpret logging (catchOf (cpu (now (r .entry)) (now (q .entry))) mode v n) (journaled (now (m .entry)) (now (journal .entry))) ⌝ }
+    ensures { λ x. ⌜ Ends x m journal q r (λ c. catchOf c mode v n) ⌝ }
 {
     let x = catch_held(m, journal, q, r, mode, v);
     if 0x1_0000_0000 <= x {

@@ -16,19 +16,13 @@ use tables::legal::is_stack;
 use word::sums::minus;
 use word::sums::plus;
 ghost use mathlib.Core.Path.{_≡_};
-ghost use Rattle.memory.specs.Answers.{answerOf};
-ghost use Rattle.program.specs.Access.{gave};
-ghost use Rattle.program.specs.Program.{interpret};
-ghost use Rattle.program.specs.Journal.{Journal, journaled, logging};
-ghost use Rattle.machine.specs.Cache.{Cache};
-ghost use Rattle.machine.specs.Status.{cpu};
-ghost use Rattle.access.specs.Code.{ended};
+ghost use Rattle.access.specs.Contracts.{Ends, EndsReadOnly};
 ghost use Rattle.exec.specs.Stack.{enterPlain, enterUncached, enterEmpty, enterOffset, enterAt, clipped as clippedOf, enter as enterOf};
 ghost use Rattle.stacks.specs.Code.{enterClipped};
 
 // The interrupt stack is current: nothing is moved.
 fn enter_plain(m: &[u8], r: &mut [u32; 17], target: u32) -> u64
-    ensures { λ x. ⌜ ((q : Cache) (j : Journal) → gave (ended (answerOf x) (now (r .exit)) q) (journaled (now (m .entry)) j) ≡ interpret logging (enterPlain (cpu (now (r .entry)) q) target) (journaled (now (m .entry)) j)) ⌝ }
+    ensures { λ x. ⌜ EndsReadOnly x m r (λ c. enterPlain c target) ⌝ }
 {
     let x = check_target(m, r, target);
     if 0x1_0000_0000 <= x {
@@ -40,7 +34,7 @@ fn enter_plain(m: &[u8], r: &mut [u32; 17], target: u32) -> u64
 
 // The cache is off, or empty.
 fn enter_uncached(m: &[u8], r: &mut [u32; 17], target: u32) -> u64
-    ensures { λ x. ⌜ ((q : Cache) (j : Journal) → gave (ended (answerOf x) (now (r .exit)) q) (journaled (now (m .entry)) j) ≡ interpret logging (enterUncached (cpu (now (r .entry)) q) target) (journaled (now (m .entry)) j)) ⌝ }
+    ensures { λ x. ⌜ EndsReadOnly x m r (λ c. enterUncached c target) ⌝ }
 {
     let x = check_target(m, r, target);
     if 0x1_0000_0000 <= x {
@@ -59,7 +53,7 @@ fn enter_empty(
     r: &mut [u32; 17],
     target: u32,
 ) -> u64
-    ensures { λ x. ⌜ gave (ended (answerOf x) (now (r .exit)) (now (q .entry))) (journaled (now (m .exit)) (now (journal .exit))) ≡ interpret logging (enterEmpty (cpu (now (r .entry)) (now (q .entry))) target) (journaled (now (m .entry)) (now (journal .entry))) ⌝ }
+    ensures { λ x. ⌜ Ends x m journal q r (λ c. enterEmpty c target) ⌝ }
 {
     let x = flush(m, journal, q, r, true, target);
     if 0x1_0000_0000 <= x {
@@ -82,7 +76,7 @@ fn clipped(old: u32, msp: u32, target: u32) -> u32
 
 // Both pointers are checked, then set; old is MSP before the flush.
 fn enter_clipped(m: &[u8], r: &mut [u32; 17], target: u32, old: u32) -> u64
-    ensures { λ x. ⌜ ((q : Cache) (j : Journal) → gave (ended (answerOf x) (now (r .exit)) q) (journaled (now (m .entry)) j) ≡ interpret logging (enterClipped (cpu (now (r .entry)) q) target old) (journaled (now (m .entry)) j)) ⌝ }
+    ensures { λ x. ⌜ EndsReadOnly x m r (λ c. enterClipped c target old) ⌝ }
 {
     let new = clipped(old, r[4], target);
     let x = check_target(m, r, target);
@@ -109,7 +103,7 @@ fn enter_offset(
     r: &mut [u32; 17],
     target: u32,
 ) -> u64
-    ensures { λ x. ⌜ gave (ended (answerOf x) (now (r .exit)) (now (q .entry))) (journaled (now (m .exit)) (now (journal .exit))) ≡ interpret logging (enterOffset (cpu (now (r .entry)) (now (q .entry))) target) (journaled (now (m .entry)) (now (journal .entry))) ⌝ }
+    ensures { λ x. ⌜ Ends x m journal q r (λ c. enterOffset c target) ⌝ }
 {
     let old = r[4];
     let x = flush(m, journal, q, r, false, target);
@@ -127,7 +121,7 @@ fn enter_at(
     mode: MonadicMode,
     target: u32,
 ) -> u64
-    ensures { λ x. ⌜ gave (ended (answerOf x) (now (r .exit)) (now (q .entry))) (journaled (now (m .exit)) (now (journal .exit))) ≡ interpret logging (enterAt (cpu (now (r .entry)) (now (q .entry))) mode target) (journaled (now (m .entry)) (now (journal .entry))) ⌝ }
+    ensures { λ x. ⌜ Ends x m journal q r (λ c. enterAt c mode target) ⌝ }
 {
     if sp_current(r) {
         if cache_on(r) {
@@ -154,7 +148,7 @@ pub fn enter(
     v: u32,
     n: u32,
 ) -> u64
-    ensures { λ x. ⌜ gave (ended (answerOf x) (now (r .exit)) (now (q .entry))) (journaled (now (m .exit)) (now (journal .exit))) ≡ interpret logging (enterOf (cpu (now (r .entry)) (now (q .entry))) mode v n) (journaled (now (m .entry)) (now (journal .entry))) ⌝ }
+    ensures { λ x. ⌜ Ends x m journal q r (λ c. enterOf c mode v n) ⌝ }
 {
     let x = stack_target(m, journal, q, r, mode, v);
     if 0x1_0000_0000 <= x {

@@ -7,13 +7,7 @@ use machine::registers::kept;
 use machine::status::is_user;
 use memory::answers::low32;
 use word::sums::plus;
-ghost use mathlib.Core.Path.{_≡_};
-ghost use Rattle.memory.specs.Answers.{answerOf};
-ghost use Rattle.program.specs.Access.{gave};
-ghost use Rattle.program.specs.Program.{interpret};
-ghost use Rattle.program.specs.Journal.{journaled, logging};
-ghost use Rattle.machine.specs.Status.{cpu};
-ghost use Rattle.access.specs.Code.{ended};
+ghost use Rattle.access.specs.Contracts.{Ends};
 ghost use Rattle.exec.specs.Frames.{cretFill, cret as cretOf};
 ghost use Rattle.stacks.specs.Code.{cretCaught, cretFrom, cretAfter};
 
@@ -26,7 +20,7 @@ fn cret_caught(
     t: u32,
     p: u32,
 ) -> u64
-    ensures { λ x. ⌜ gave (ended (answerOf x) (now (r .exit)) (now (q .exit))) (journaled (now (m .exit)) (now (journal .exit))) ≡ interpret logging (cretCaught (cpu (now (r .entry)) (now (q .entry))) t p) (journaled (now (m .entry)) (now (journal .entry))) ⌝ }
+    ensures { λ x. ⌜ Ends x m journal q r (λ c. cretCaught c t p) ⌝ }
 {
     let stb = r[9];
     let user = is_user(r);
@@ -48,7 +42,7 @@ fn cret_fill(
     w: u32,
     p: u32,
 ) -> u64
-    ensures { λ x. ⌜ gave (ended (answerOf x) (now (r .exit)) (now (q .exit))) (journaled (now (m .exit)) (now (journal .exit))) ≡ interpret logging (cretFill (cpu (now (r .entry)) (now (q .entry))) w p) (journaled (now (m .entry)) (now (journal .entry))) ⌝ }
+    ensures { λ x. ⌜ Ends x m journal q r (λ c. cretFill c w p) ⌝ }
 {
     let t = kept(4, w);
     if bit(p, 9) {
@@ -74,7 +68,7 @@ fn cret_from(
     a: u32,
     p: u32,
 ) -> u64
-    ensures { λ x. ⌜ gave (ended (answerOf x) (now (r .exit)) (now (q .exit))) (journaled (now (m .exit)) (now (journal .exit))) ≡ interpret logging (cretFrom (cpu (now (r .entry)) (now (q .entry))) s w a p) (journaled (now (m .entry)) (now (journal .entry))) ⌝ }
+    ensures { λ x. ⌜ Ends x m journal q r (λ c. cretFrom c s w a p) ⌝ }
 {
     let k = kept(8, s);
     r[8] = k;
@@ -96,7 +90,7 @@ fn cret_after(
     s: u32,
     w: u32,
 ) -> u64
-    ensures { λ x. ⌜ gave (ended (answerOf x) (now (r .exit)) (now (q .exit))) (journaled (now (m .exit)) (now (journal .exit))) ≡ interpret logging (cretAfter (cpu (now (r .entry)) (now (q .entry))) s w) (journaled (now (m .entry)) (now (journal .entry))) ⌝ }
+    ensures { λ x. ⌜ Ends x m journal q r (λ c. cretAfter c s w) ⌝ }
 {
     let i = plus(r[3], 8);
     let x = read_frame(m, journal, r, i);
@@ -120,7 +114,7 @@ pub fn cret(
     q: &mut [[u32; 4]; 16],
     r: &mut [u32; 17],
 ) -> u64
-    ensures { λ x. ⌜ gave (ended (answerOf x) (now (r .exit)) (now (q .exit))) (journaled (now (m .exit)) (now (journal .exit))) ≡ interpret logging (cretOf (cpu (now (r .entry)) (now (q .entry)))) (journaled (now (m .entry)) (now (journal .entry))) ⌝ }
+    ensures { λ x. ⌜ Ends x m journal q r cretOf ⌝ }
 {
     let i = r[3];
     let x = read_frame(m, journal, r, i);

@@ -7,18 +7,11 @@ use machine::status::is_user;
 use machine::status::is_virtual;
 use memory::answers::good;
 use word::Width;
-ghost use mathlib.Core.Path.{_≡_};
-ghost use Prim.Native.Nat.{_^_, _<_};
-ghost use Rattle.memory.specs.Answers.{answerOf};
-ghost use Rattle.program.specs.Access.{gave, probe as probes};
-ghost use Rattle.program.specs.Program.{interpret};
-ghost use Rattle.program.specs.Journal.{Journal, journaled, logging};
+ghost use Rattle.program.specs.Access.{probe as probes};
 ghost use Rattle.handler.specs.Followed.{regimeFor};
-ghost use Rattle.machine.specs.Cache.{Cache};
-ghost use Rattle.machine.specs.Status.{cpu};
 ghost use Rattle.access.specs.Parts.{request};
 ghost use Rattle.access.specs.Data.{checkStore};
-ghost use Rattle.access.specs.Code.{valued};
+ghost use Rattle.access.specs.Contracts.{Yields, YieldsReadOnly};
 ghost use Rattle.exec.specs.Stack.{stackTarget, checkMsp};
 
 // The target of ENTER or CATCH.
@@ -30,7 +23,7 @@ pub fn stack_target(
     mode: MonadicMode,
     v: u32,
 ) -> u64
-    ensures { λ x. ⌜ (gave (valued (answerOf x) (now (r .exit)) (now (q .entry))) (journaled (now (m .exit)) (now (journal .exit))) ≡ interpret logging (stackTarget (cpu (now (r .entry)) (now (q .entry))) mode v) (journaled (now (m .entry)) (now (journal .entry)))) × (x < 2 ^ 32 → now (r .exit) ≡ now (r .entry)) ⌝ }
+    ensures { λ x. ⌜ Yields x m journal q r (λ c. stackTarget c mode v) ⌝ }
 {
     match mode {
         MonadicMode::WordAbsolute => load(m, journal, q, r, Width::Word, v),
@@ -46,7 +39,7 @@ pub fn stack_target(
 
 // Whether stores at a are valid, in a regime given by its numbers.
 fn check(m: &[u8], r: &mut [u32; 17], stb: u32, user: bool, translated: bool, a: u32) -> u64
-    ensures { λ x. ⌜ ((q : Cache) (j : Journal) → (gave (valued (answerOf x) (now (r .exit)) q) (journaled (now (m .entry)) j) ≡ interpret logging (request (cpu (now (r .entry)) q) (probes (regimeFor stb user translated) a) a) (journaled (now (m .entry)) j)) × (x < 2 ^ 32 → now (r .exit) ≡ now (r .entry))) ⌝ }
+    ensures { λ x. ⌜ YieldsReadOnly x m r (λ c. request c (probes (regimeFor stb user translated) a) a) ⌝ }
 {
     let x = handler::accesses::probe(m, stb, user, translated, a);
     if 0x1_0000_0000 <= x {
@@ -58,7 +51,7 @@ fn check(m: &[u8], r: &mut [u32; 17], stb: u32, user: bool, translated: bool, a:
 
 // The same at the current level.
 pub fn check_target(m: &[u8], r: &mut [u32; 17], a: u32) -> u64
-    ensures { λ x. ⌜ ((q : Cache) (j : Journal) → (gave (valued (answerOf x) (now (r .exit)) q) (journaled (now (m .entry)) j) ≡ interpret logging (checkStore (cpu (now (r .entry)) q) a) (journaled (now (m .entry)) j)) × (x < 2 ^ 32 → now (r .exit) ≡ now (r .entry))) ⌝ }
+    ensures { λ x. ⌜ YieldsReadOnly x m r (λ c. checkStore c a) ⌝ }
 {
     let stb = r[9];
     let user = is_user(r);
@@ -76,7 +69,7 @@ pub fn check_msp(
     old: u32,
     new: u32,
 ) -> u64
-    ensures { λ x. ⌜ ((q : Cache) (j : Journal) → (gave (valued (answerOf x) (now (r .exit)) q) (journaled (now (m .entry)) j) ≡ interpret logging (checkMsp (cpu (now (r .entry)) q) (regimeFor stb user translated) old new) (journaled (now (m .entry)) j)) × (x < 2 ^ 32 → now (r .exit) ≡ now (r .entry))) ⌝ }
+    ensures { λ x. ⌜ YieldsReadOnly x m r (λ c. checkMsp c (regimeFor stb user translated) old new) ⌝ }
 {
     if new == old {
         good(0)

@@ -8,9 +8,7 @@ ghost use mathlib.Core.Path.{_≡_};
 ghost use mathlib.Core.Bool.{false};
 ghost use Prim.Native.Nat.{_%_};
 ghost use Rattle.memory.specs.Answers.{answerOf};
-ghost use Rattle.program.specs.Access.{gave};
-ghost use Rattle.program.specs.Program.{interpret};
-ghost use Rattle.program.specs.Journal.{journaled, logging};
+ghost use Rattle.program.specs.Contracts.{Interprets};
 ghost use Rattle.machine.specs.Cache.{Cache};
 ghost use Rattle.machine.specs.Status.{cpu};
 ghost use Rattle.access.specs.Code.{ended};
@@ -28,7 +26,7 @@ fn settle(r: &mut [u32; 17], x: u64)
 
 // Exception e; 0 is the reset that a fault on the interrupt stack asks for.
 pub fn exception_step(m: &mut [u8], journal: &mut [u64; 201], r: &mut [u32; 17], e: u32)
-    ensures { λ z. ⌜ ((q : Cache) → gave (stepped (cpu (now (r .exit)) q) false) (journaled (now (m .exit)) (now (journal .exit))) ≡ interpret logging (exceptionStep (cpu (now (r .entry)) q) e) (journaled (now (m .entry)) (now (journal .entry)))) ⌝ }
+    ensures { λ z. ⌜ ((q : Cache) → Interprets (stepped (cpu (now (r .exit)) q) false) m journal (exceptionStep (cpu (now (r .entry)) q) e)) ⌝ }
 {
     if e == 0 {
         reset(r);
@@ -40,7 +38,8 @@ pub fn exception_step(m: &mut [u8], journal: &mut [u64; 201], r: &mut [u32; 17],
 
 // The event of a number of document 01; only its low five bits are used.
 pub fn event_step(m: &mut [u8], journal: &mut [u64; 201], r: &mut [u32; 17], code: u32)
-    ensures { λ z. ⌜ ((q : Cache) → gave (stepped (cpu (now (r .exit)) q) false) (journaled (now (m .exit)) (now (journal .exit))) ≡ interpret logging (eventStep (cpu (now (r .entry)) q) (eventFrom (code % 32))) (journaled (now (m .entry)) (now (journal .entry)))) ⌝ }
+    ensures { λ z. ⌜ ((q : Cache)
+        → Interprets (stepped (cpu (now (r .exit)) q) false) m journal (eventStep (cpu (now (r .entry)) q) (eventFrom (code % 32)))) ⌝ }
 {
     let k = code % 32;
     taken(r, k);

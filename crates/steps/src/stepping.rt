@@ -8,19 +8,17 @@ use pending::events::due_code;
 use pending::events::looked;
 use pending::events::trace_falls;
 use pending::tracing::traces_at;
-ghost use mathlib.Core.Path.{_≡_};
 ghost use Rattle.memory.specs.Answers.{answerOf};
-ghost use Rattle.program.specs.Access.{gave};
-ghost use Rattle.program.specs.Program.{interpret};
-ghost use Rattle.program.specs.Journal.{journaled, logging};
+ghost use Rattle.program.specs.Contracts.{Interprets};
 ghost use Rattle.machine.specs.Cache.{Cache};
 ghost use Rattle.machine.specs.Status.{cpu};
+ghost use Rattle.access.specs.Contracts.{entryCpu, exitCpu};
 ghost use Rattle.attempts.specs.Code.{actedOut};
 ghost use Rattle.step.specs.Step.{stepped, finish as finishOf, instructionStep, step as stepOf};
 
 // After an attempt that began with the PSW p: a trace falls due, or the exception is taken.
 fn finish(m: &mut [u8], journal: &mut [u64; 201], r: &mut [u32; 17], p: u32, x: u64) -> bool
-    ensures { λ z. ⌜ ((q : Cache) → gave (stepped (cpu (now (r .exit)) q) z) (journaled (now (m .exit)) (now (journal .exit))) ≡ interpret logging (finishOf p (actedOut (answerOf x) (now (r .entry)) q)) (journaled (now (m .entry)) (now (journal .entry)))) ⌝ }
+    ensures { λ z. ⌜ ((q : Cache) → Interprets (stepped (cpu (now (r .exit)) q) z) m journal (finishOf p (actedOut (answerOf x) (now (r .entry)) q))) ⌝ }
 {
     if 0x1_0000_0000 <= x {
         exception_step(m, journal, r, low32(x));
@@ -41,7 +39,7 @@ fn instruction_step(
     q: &mut [[u32; 4]; 16],
     r: &mut [u32; 17],
 ) -> bool
-    ensures { λ z. ⌜ gave (stepped (cpu (now (r .exit)) (now (q .exit))) z) (journaled (now (m .exit)) (now (journal .exit))) ≡ interpret logging (instructionStep (cpu (now (r .entry)) (now (q .entry)))) (journaled (now (m .entry)) (now (journal .entry))) ⌝ }
+    ensures { λ z. ⌜ Interprets (stepped (exitCpu q r) z) m journal (instructionStep (entryCpu q r)) ⌝ }
 {
     let p = r[6];
     let x = attempt(m, journal, q, r, false);
@@ -56,7 +54,7 @@ pub fn step(
     r: &mut [u32; 17],
     level: u32,
 ) -> bool
-    ensures { λ z. ⌜ gave (stepped (cpu (now (r .exit)) (now (q .exit))) z) (journaled (now (m .exit)) (now (journal .exit))) ≡ interpret logging (stepOf level (cpu (now (r .entry)) (now (q .entry)))) (journaled (now (m .entry)) (now (journal .entry))) ⌝ }
+    ensures { λ z. ⌜ Interprets (stepped (exitCpu q r) z) m journal (stepOf level (entryCpu q r)) ⌝ }
 {
     looked(r, level);
     let due = due_code(r, level);
