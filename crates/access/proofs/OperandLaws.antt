@@ -127,21 +127,22 @@ module _ (c : Cpu) (t : Journaled) where
 
 -- ---- a text by its parts
 
-module _ (p x y a b d e : ℕ) where
-  pub bare-one : p < 0x8000 → record { count = 1; p0 = p; p1 = 0; p2 = 0; p3 = 0; p4 = 0; p5 = 0 } ≡ textOf (p ∷ listed p x y)
-  bare-one h = rw (lt-ltb p 0x8000 h) refl
+-- f is the form of the parcel p
+module _ (p x y a b d e f : ℕ) (form : f ≡ p / 0x4000) where
+  pub bare-one : f < 2 → record { count = 1; p0 = p; p1 = 0; p2 = 0; p3 = 0; p4 = 0; p5 = 0 } ≡ textOf (p ∷ listed p x y)
+  bare-one h = rw (lt-ltb p 0x8000 (omega arith)) refl
 
-  pub bare-three : 0x8000 ≤ p → p < 0xC000 → a ≡ x / 65536 → b ≡ x % 65536 → record { count = 3; p0 = p; p1 = a; p2 = b; p3 = 0; p4 = 0; p5 = 0 } ≡ textOf (p ∷ listed p x y)
-  bare-three h k ea eb = rw (le-ltb p 0x8000 h, lt-ltb p 0xC000 k, ea, eb) refl
+  pub bare-three : 2 ≤ f → f < 3 → a ≡ x / 65536 → b ≡ x % 65536 → record { count = 3; p0 = p; p1 = a; p2 = b; p3 = 0; p4 = 0; p5 = 0 } ≡ textOf (p ∷ listed p x y)
+  bare-three h k ea eb = rw (le-ltb p 0x8000 (omega arith), lt-ltb p 0xC000 (omega arith), ea, eb) refl
 
-  pub bare-five : 0x8000 ≤ p → 0xC000 ≤ p → a ≡ x / 65536 → b ≡ x % 65536 → d ≡ y / 65536 → e ≡ y % 65536 → record { count = 5; p0 = p; p1 = a; p2 = b; p3 = d; p4 = e; p5 = 0 } ≡ textOf (p ∷ listed p x y)
-  bare-five h k ea eb ed ee = rw (le-ltb p 0x8000 h, le-ltb p 0xC000 k, ea, eb, ed, ee) refl
+  pub bare-five : 2 ≤ f → 3 ≤ f → a ≡ x / 65536 → b ≡ x % 65536 → d ≡ y / 65536 → e ≡ y % 65536 → record { count = 5; p0 = p; p1 = a; p2 = b; p3 = d; p4 = e; p5 = 0 } ≡ textOf (p ∷ listed p x y)
+  bare-five h k ea eb ed ee = rw (le-ltb p 0x8000 (omega arith), le-ltb p 0xC000 (omega arith), ea, eb, ed, ee) refl
 
-  pub prefixed-one : p < 0x8000 → record { count = 2; p0 = 0x2C00; p1 = p; p2 = 0; p3 = 0; p4 = 0; p5 = 0 } ≡ textOf (cpuPrefix ∷ p ∷ listed p x y)
-  prefixed-one h = rw (lt-ltb p 0x8000 h) refl
+  pub prefixed-one : f < 2 → record { count = 2; p0 = 0x2C00; p1 = p; p2 = 0; p3 = 0; p4 = 0; p5 = 0 } ≡ textOf (cpuPrefix ∷ p ∷ listed p x y)
+  prefixed-one h = rw (lt-ltb p 0x8000 (omega arith)) refl
 
-  pub prefixed-three : 0x8000 ≤ p → p < 0xC000 → a ≡ x / 65536 → b ≡ x % 65536 → record { count = 4; p0 = 0x2C00; p1 = p; p2 = a; p3 = b; p4 = 0; p5 = 0 } ≡ textOf (cpuPrefix ∷ p ∷ listed p x y)
-  prefixed-three h k ea eb = rw (le-ltb p 0x8000 h, lt-ltb p 0xC000 k, ea, eb) refl
+  pub prefixed-three : 2 ≤ f → f < 3 → a ≡ x / 65536 → b ≡ x % 65536 → record { count = 4; p0 = 0x2C00; p1 = p; p2 = a; p3 = b; p4 = 0; p5 = 0 } ≡ textOf (cpuPrefix ∷ p ∷ listed p x y)
+  prefixed-three h k ea eb = rw (le-ltb p 0x8000 (omega arith), lt-ltb p 0xC000 (omega arith), ea, eb) refl
 
-  pub prefixed-five : 0x8000 ≤ p → 0xC000 ≤ p → a ≡ x / 65536 → b ≡ x % 65536 → d ≡ y / 65536 → e ≡ y % 65536 → record { count = 6; p0 = 0x2C00; p1 = p; p2 = a; p3 = b; p4 = d; p5 = e } ≡ textOf (cpuPrefix ∷ p ∷ listed p x y)
-  prefixed-five h k ea eb ed ee = rw (le-ltb p 0x8000 h, le-ltb p 0xC000 k, ea, eb, ed, ee) refl
+  pub prefixed-five : 2 ≤ f → 3 ≤ f → a ≡ x / 65536 → b ≡ x % 65536 → d ≡ y / 65536 → e ≡ y % 65536 → record { count = 6; p0 = 0x2C00; p1 = p; p2 = a; p3 = b; p4 = d; p5 = e } ≡ textOf (cpuPrefix ∷ p ∷ listed p x y)
+  prefixed-five h k ea eb ed ee = rw (le-ltb p 0x8000 (omega arith), le-ltb p 0xC000 (omega arith), ea, eb, ed, ee) refl

@@ -28,13 +28,18 @@ module _ (c : Cpu) (a x : ℕ) (t u : Journaled) (e : gave (answerOf x) u ≡ lo
     two-second k =
         rw (bind, parcel-fetched c (answerOf x) t u a e, answer-low x h, bind, ← eb, parcel-fetched c (answerOf y) u v b f, answer-high y k) refl
 
-    pub two-both : y < 2 ^ 32 → gave (joinedOut c (answerOf (x % 65536 * 65536 + y % 65536))) v ≡ interpret logging (fetchTwo c a) t
+    both : y < 2 ^ 32 → gave (joinedOut c (answerOf (x % 65536 * 65536 + y % 65536))) v ≡ interpret logging (fetchTwo c a) t
     unfolding fetchTwo onward interpret
-    two-both k =
+    both k =
         let w : x % 2 ^ 32 % 2 ^ 16 ≡ x % 65536 = omega arith in
         let z : y % 2 ^ 32 % 2 ^ 16 ≡ y % 65536 = omega arith in
         rw (bind, parcel-fetched c (answerOf x) t u a e, answer-low x h, bind, ← eb, parcel-fetched c (answerOf y) u v b f, answer-low y k, w, z)
         (ap (λ (r : Answer). gave (joinedOut c r) v) (answer-got (x % 65536 * 65536 + y % 65536) (omega arith)))
+
+    -- p and q are the parcels, j the word of both
+    pub two-both : y < 2 ^ 32 → (p q j : ℕ) → p ≡ x % 65536 → q ≡ y % 65536 → j ≡ p * 65536 + q
+        → gave (joinedOut c (answerOf j)) v ≡ interpret logging (fetchTwo c a) t
+    two-both k p q j ep eq ej = rw (ej, ep, eq) (both k)
 
 -- ---- parcels in pairs
 

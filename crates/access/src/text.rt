@@ -1,6 +1,8 @@
 // The text of an instruction at PC: one to six parcels, each fetched and translated by itself.
 use crate::data::fetch_parcel;
+use bits::form_bits;
 use bits::high_half;
+use bits::joined;
 use bits::low_half;
 use isa::Text;
 use word::sums::plus;
@@ -39,14 +41,15 @@ fn fetch_two(m: &mut [u8], journal: &mut [u64; 201], r: &[u32; 17], a: u32) -> u
     if 0x1_0000_0000 <= y {
         return y;
     }
-    x % 0x1_0000 * 0x1_0000 + y % 0x1_0000
+    joined(parcel(x), parcel(y)) as u64
 }
 
 // The parcels after p, which stand from a on.
 fn fetch_operands(m: &mut [u8], journal: &mut [u64; 201], r: &[u32; 17], a: u32, p: u16) -> Operands
     ensures { λ x. ⌜ Fetches (λ c. operandsOut c p x) m journal r (λ c. fetchParcels c a (following p)) ⌝ }
 {
-    if p < 0x8000 {
+    let form = form_bits(p);
+    if form < 2 {
         return Operands {
             fault: 0,
             source: 0,
@@ -62,7 +65,7 @@ fn fetch_operands(m: &mut [u8], journal: &mut [u64; 201], r: &[u32; 17], a: u32,
         };
     }
     let source = memory::answers::low32(x);
-    if p < 0xC000 {
+    if form < 3 {
         return Operands {
             fault: 0,
             source,
@@ -89,7 +92,7 @@ fn fetch_operands(m: &mut [u8], journal: &mut [u64; 201], r: &[u32; 17], a: u32,
 fn parcel(x: u64) -> u16
     ensures { λ r. ⌜ r ≡ x % 65536 ⌝ }
 {
-    (x % 65536) as u16
+    (x & 0xFFFF) as u16
 }
 
 fn none() -> Text
@@ -112,7 +115,8 @@ fn bare(p: u16, o: Operands) -> Text
 {
     let x = o.source;
     let y = o.destination;
-    if p < 0x8000 {
+    let form = form_bits(p);
+    if form < 2 {
         return Text {
             count: 1,
             p0: p,
@@ -123,7 +127,7 @@ fn bare(p: u16, o: Operands) -> Text
             p5: 0,
         };
     }
-    if p < 0xC000 {
+    if form < 3 {
         return Text {
             count: 3,
             p0: p,
@@ -151,7 +155,8 @@ fn prefixed(p: u16, o: Operands) -> Text
 {
     let x = o.source;
     let y = o.destination;
-    if p < 0x8000 {
+    let form = form_bits(p);
+    if form < 2 {
         return Text {
             count: 2,
             p0: 0x2C00,
@@ -162,7 +167,7 @@ fn prefixed(p: u16, o: Operands) -> Text
             p5: 0,
         };
     }
-    if p < 0xC000 {
+    if form < 3 {
         return Text {
             count: 4,
             p0: 0x2C00,

@@ -17,9 +17,9 @@ pub expanded-signed : (m : Mode) (w : Width) (x r : ℕ) (t : Bool) → t ≡ is
     → r ≡ signExtendOf (bitsOf w) x → r ≡ expanded m x
 expanded-signed m w x r t e h f g = g ∙ simp (sym e, h, f)
 
-pub in-region : (k p v r : ℕ) (w : Wide) (t : Bool) → w ≡ Three → t ≡ bitOf k 17 → t ≡ true
-    → r ≡ plusOf (p / 2 ^ 29 * 2 ^ 29) v → r ≡ absoluteOn k p w v
-in-region k p v r w t e f h g = g ∙ simp (e, sym f, h)
+pub in-region : (k p b v r : ℕ) (w : Wide) (t : Bool) → w ≡ Three → t ≡ bitOf k 17 → t ≡ true
+    → b ≡ p / 2 ^ 29 * 2 ^ 29 → r ≡ plusOf b v → r ≡ absoluteOn k p w v
+in-region k p b v r w t e f h i g = g ∙ simp (i, e, sym f, h)
 
 pub in-low : (k p v : ℕ) (w : Wide) (t : Bool) → w ≡ Three → t ≡ bitOf k 17 → t ≡ false → v ≡ absoluteOn k p w v
 in-low k p v w t e f h = simp (e, sym f, h)

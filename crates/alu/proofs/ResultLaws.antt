@@ -5,6 +5,7 @@ use mathlib.Core.Bool.{Bool, true, false}
 use Prim.Native.Nat.{ℕ, _+_, _-_, _*_, _/_, _%_, _^_, _<_}
 use native.Mathlib.Omega.{arith}
 use borrow.Author.Tests.{ne-eqb}
+use lib.Bits.{bitAnd, and-mask}
 use lib.Dec.{eqb}
 use Rattle.word.specs.declared.Sum.{Sum}
 use Rattle.word.specs.declared.Quotient.{Quotient}
@@ -45,9 +46,9 @@ pub overflow-set : (v r y : ℕ) (o : Bool) → y ≡ digit o → unpacked r ≡
     → unpacked r ≡ result v stays (gets o)
 overflow-set v r y o f g = g ∙ rw (f, digit-gets o)
 
-pub value-unpacked : (w : ℕ) → w % 0x1_0000_0000 ≡ unpacked w .value
+pub value-unpacked : (w : ℕ) → bitAnd w 0xFFFF_FFFF ≡ unpacked w .value
 unfolding unpacked
-value-unpacked w = refl
+value-unpacked w = and-mask w 32
 
 -- a flag that stays, and one that gets a value
 pub code-stays : (n k x : ℕ) → k ≡ 2 → x ≡ flagged n (flagFrom k) x
@@ -56,10 +57,10 @@ code-stays n k x e = rw e
 pub code-gets : (n k x r : ℕ) → (k ≡ 2 → ⊥) → r ≡ withBitAs n (eqb k 1) x → r ≡ flagged n (flagFrom k) x
 code-gets n k x r h e = simp (ne-eqb k 2 h) e
 
-pub both-laid : (w x y r : ℕ) → y ≡ flagged carryBit (flagFrom (w / 0x1_0000_0000 % 4)) x
-    → r ≡ flagged overflowBit (flagFrom (w / 0x1_0000_0000 / 4 % 4)) y → r ≡ laidOver (unpacked w) x
+pub both-laid : (w x y r : ℕ) → y ≡ flagged carryBit (flagFrom (bitAnd (w / 0x1_0000_0000) 3)) x
+    → r ≡ flagged overflowBit (flagFrom (bitAnd (w / 0x1_0000_0000 / 4) 3)) y → r ≡ laidOver (unpacked w) x
 unfolding unpacked
-both-laid w x y r e f = f ∙ rw e refl
+both-laid w x y r e f = f ∙ rw (e, and-mask (w / 0x1_0000_0000) 2, and-mask (w / 0x1_0000_0000 / 4) 2) refl
 
 -- a sum, a difference or a product
 pub summed : (t u : Sum) (r : ℕ) → t ≡ u → unpacked r ≡ result (t .value) (gets (t .carry)) (gets (t .overflow))

@@ -1,6 +1,7 @@
 // Operands by their modes: width, sign, kind, and where an absolute address lies (1.2, 1.6.2, Table 1-21).
 use crate::OperandKind;
 use bits::bit;
+use bits::clear_low;
 use isa::Mode;
 use isa::Wide;
 use word::Width;
@@ -100,7 +101,7 @@ pub fn absolute(config: u32, pc: u32, wide: Wide, v: u32) -> u32
     match wide {
         Wide::Three => {
             if bit(config, 17) {
-                plus(pc / 0x2000_0000 * 0x2000_0000, v)
+                plus(clear_low(pc, 29), v)
             } else {
                 v
             }

@@ -1,5 +1,6 @@
 // Bits of the PSW (Table 1-8), as numbers.
 use bits::bit;
+use bits::clear_low;
 use bits::set_bit;
 ghost use mathlib.Core.Path.{_≡_};
 ghost use Prim.Native.Nat.{_*_, _/_, _%_, _^_};
@@ -39,5 +40,5 @@ pub fn test_bit(x: u32, n: u32) -> u32
 pub fn masked(x: u32) -> u32
     ensures { λ r. ⌜ r ≡ x / 2 ^ 16 * 2 ^ 16 ⌝ }
 {
-    x / 65536 * 65536
+    clear_low(x, 16)
 }

@@ -60,7 +60,7 @@ fn no_flags(value: u32) -> u64
 pub fn value_of(w: u64) -> u32
     ensures { λ r. ⌜ r ≡ unpacked w .value ⌝ }
 {
-    (w % 0x1_0000_0000) as u32
+    (w & 0xFFFF_FFFF) as u32
 }
 
 // x with bit n as a flag's code says.
@@ -78,11 +78,11 @@ fn with_code(n: u32, code: u32, x: u32) -> u32
 pub fn laid_over(w: u64, psw: u32) -> u32
     ensures { λ r. ⌜ r ≡ laidOver (unpacked w) psw ⌝ }
 {
-    let flags = w / 0x1_0000_0000;
+    let flags = w >> 32;
     with_code(
         6,
-        (flags / 4 % 4) as u32,
-        with_code(5, (flags % 4) as u32, psw),
+        ((flags >> 2) & 3) as u32,
+        with_code(5, (flags & 3) as u32, psw),
     )
 }
 

@@ -45,18 +45,18 @@ abbrev releasedTo : Cpu → ℕ → Cpu
 releasedTo c a =
     cond (spCurrent (c .bank) && (not (cacheOn (c .bank)) || ltb (reg c msp) a)) (with (withCsp c a) msp a) (withCsp c a)
 
-released-at : (b : Bank) (q : Cache) (v x : ℕ) → x ≡ stackAddress (cpu b []) v → releasedTo (cpu b q) (x / 16 * 16) ≡ released (cpu b q) v
+released-at : (b : Bank) (q : Cache) (v x a : ℕ) → x ≡ stackAddress (cpu b []) v → a ≡ x / 16 * 16 → releasedTo (cpu b q) a ≡ released (cpu b q) v
 unfolding released
-released-at b q v x e = ap (λ (y : ℕ). releasedTo (cpu b q) (y / 16 * 16)) e
+released-at b q v x a e i = ap (releasedTo (cpu b q)) i ∙ ap (λ (y : ℕ). releasedTo (cpu b q) (y / 16 * 16)) e
 
--- x is the address, t and u that SP is current and the cache on, n the bank with the stack pointer at it
-module _ (b n : Bank) (q : Cache) (v x : ℕ) (t u : Bool) (e : x ≡ stackAddress (cpu b []) v) (f : t ≡ spCurrent b) (g : u ≡ cacheOn b)
-    (w : (p : Cache) → cpu n p ≡ withCsp (cpu b p) (x / 16 * 16)) where
-  same : (t && (not u || ltb (word b msp) (x / 16 * 16))) ≡ (spCurrent b && (not (cacheOn b) || ltb (word b msp) (x / 16 * 16)))
+-- x is the address, a its quad-word, t and u that SP is current and the cache on, n the bank with the stack pointer at it
+module _ (b n : Bank) (q : Cache) (v x a : ℕ) (t u : Bool) (e : x ≡ stackAddress (cpu b []) v) (i : a ≡ x / 16 * 16) (f : t ≡ spCurrent b) (g : u ≡ cacheOn b)
+    (w : (p : Cache) → cpu n p ≡ withCsp (cpu b p) a) where
+  same : (t && (not u || ltb (word b msp) a)) ≡ (spCurrent b && (not (cacheOn b) || ltb (word b msp) a))
   same = rw (f, g)
 
-  pub msp-follows : (t && (not u || ltb (word b msp) (x / 16 * 16))) ≡ true → cpu (set n msp (x / 16 * 16)) q ≡ released (cpu b q) v
-  msp-follows h = test-held _ _ _ _ _ same h (ap (λ (d : Cpu). with d msp (x / 16 * 16)) (w q)) ∙ released-at b q v x e
+  pub msp-follows : (t && (not u || ltb (word b msp) a)) ≡ true → cpu (set n msp a) q ≡ released (cpu b q) v
+  msp-follows h = test-held _ _ _ _ _ same h (ap (λ (d : Cpu). with d msp a) (w q)) ∙ released-at b q v x a e i
 
-  pub msp-stays : (t && (not u || ltb (word b msp) (x / 16 * 16))) ≡ false → cpu n q ≡ released (cpu b q) v
-  msp-stays h = test-failed _ _ _ _ _ same h (w q) ∙ released-at b q v x e
+  pub msp-stays : (t && (not u || ltb (word b msp) a)) ≡ false → cpu n q ≡ released (cpu b q) v
+  msp-stays h = test-failed _ _ _ _ _ same h (w q) ∙ released-at b q v x a e i

@@ -1,4 +1,5 @@
 // PC and the current stack pointer.
+use bits::clear_low;
 use machine::status::cache_on;
 use machine::status::sp_current;
 use word::sums::plus;
@@ -14,7 +15,7 @@ ghost use Rattle.exec.specs.Frames.{restoredCsp};
 pub fn jumped(b: &mut [u32; 17], a: u32)
     ensures { λ r. ⌜ Becomes b (λ c. jumpedOf c a) ⌝ }
 {
-    b[5] = a / 2 * 2;
+    b[5] = clear_low(a, 1);
 }
 
 // The address of the instruction in line, n parcels on.
@@ -69,7 +70,7 @@ pub fn stack_address(b: &[u32; 17], v: u32) -> u32
 pub fn released(b: &mut [u32; 17], v: u32)
     ensures { λ r. ⌜ Becomes b (λ c. releasedOf c v) ⌝ }
 {
-    let a = stack_address(b, v) / 16 * 16;
+    let a = clear_low(stack_address(b, v), 4);
     if sp_current(b) & (!cache_on(b) | (b[4] < a)) {
         with_csp(b, a);
         b[4] = a;

@@ -1,5 +1,6 @@
 // Registers in event sequences (1.11).
 use alu::psw::masked;
+use bits::clear_low;
 use machine::registers::kept;
 use machine::status::sp_current;
 use word::sums::minus;
@@ -26,7 +27,7 @@ pub fn vectored(b: &mut [u32; 17], a: u32)
     ensures { λ r. ⌜ Becomes b (λ c. with (jumpedOf c a) psw (reg c psw / 2 ^ 16 * 2 ^ 16)) ⌝ }
 {
     let p = masked(b[6]);
-    b[5] = a / 2 * 2;
+    b[5] = clear_low(a, 1);
     b[6] = p;
 }
 
@@ -35,7 +36,7 @@ pub fn returned(b: &mut [u32; 17], a: u32, p: u32)
     ensures { λ r. ⌜ Becomes b (λ c. returnedOf c a p) ⌝ }
 {
     let i = plus(b[3], 16);
-    b[5] = a / 2 * 2;
+    b[5] = clear_low(a, 1);
     b[6] = kept(6, p);
     b[3] = i;
     if sp_current(b) {

@@ -18,3 +18,7 @@ setOf x n = (x / 2 ^ n / 2 * 2 + 1) * 2 ^ n + x % 2 ^ n
 -- a word of two halves
 abbrev pub joinedOf : ℕ → ℕ → ℕ
 joinedOf high low = high * 65536 + low
+
+-- x with its low n bits 0
+abbrev pub clearedOf : ℕ → ℕ → ℕ
+clearedOf x n = x / 2 ^ n * 2 ^ n

@@ -1,7 +1,7 @@
 // Fields and bits of words, by shifts and masks.
 ghost use mathlib.Core.Path.{_≡_};
-ghost use Prim.Native.Nat.{_/_, _%_};
-ghost use Rattle.bits.specs.Bits.{fieldOf, bitOf, setOf, joinedOf};
+ghost use Prim.Native.Nat.{_-_, _*_, _+_, _/_, _%_, _^_, _<_};
+ghost use Rattle.bits.specs.Bits.{fieldOf, bitOf, setOf, joinedOf, clearedOf};
 
 // count bits of x from bit low up; only the low five bits of low and count are used.
 pub fn field(x: u32, low: u32, count: u32) -> u32
@@ -24,6 +24,21 @@ pub fn set_bit(x: u32, n: u32) -> u32
     x | (1 << (n % 32))
 }
 
+// x with its low n bits 0; only the low five bits of n are used.
+pub fn clear_low(x: u32, n: u32) -> u32
+    ensures { λ r. ⌜ r ≡ clearedOf x (n % 32) ⌝ }
+{
+    (x >> (n % 32)) << (n % 32)
+}
+
+// A field with another of n bits below it.
+pub fn placed(high: u32, n: u32, low: u32) -> u32
+    requires { ⌜ (n < 32) × (high < 2 ^ (32 - n)) × (low < 2 ^ n) ⌝ }
+    ensures { λ r. ⌜ r ≡ high * 2 ^ n + low ⌝ }
+{
+    (high << n) | low
+}
+
 // A word of two halves, the high one first.
 pub fn joined(high: u16, low: u16) -> u32
     ensures { λ r. ⌜ r ≡ joinedOf high low ⌝ }
@@ -35,11 +50,18 @@ pub fn joined(high: u16, low: u16) -> u32
 pub fn high_half(x: u32) -> u16
     ensures { λ r. ⌜ r ≡ x / 65536 ⌝ }
 {
-    (x / 65536 % 65536) as u16
+    (x >> 16) as u16
 }
 
 pub fn low_half(x: u32) -> u16
     ensures { λ r. ⌜ r ≡ x % 65536 ⌝ }
 {
-    (x % 65536) as u16
+    (x & 0xFFFF) as u16
+}
+
+// The top two bits of a parcel: with 0 and 1 an instruction is that one parcel, with 2 three, with 3 five (1.6.1).
+pub fn form_bits(p: u16) -> u32
+    ensures { λ r. ⌜ r ≡ p / 0x4000 ⌝ }
+{
+    (p >> 14) as u32
 }

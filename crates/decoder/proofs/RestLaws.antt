@@ -1,6 +1,6 @@
 -- A text with or without its prefix: the code's order of tests agrees with isa's definitions; the ways out of the functions.
 -- Assumes nothing.
-use Prim.Native.Nat.{ℕ, _-_, _<_, _≤_}
+use Prim.Native.Nat.{ℕ, _-_, _/_, _<_, _≤_}
 use mathlib.Core.Path.{_≡_, refl, sym, _∙_}
 use mathlib.Core.Bool.{Bool, true, false}
 use mathlib.Core.List.{List}
@@ -28,14 +28,15 @@ module _ (q : Bool) (t : Text) where
   unfolding decodeRest
   rest-none h = simp (lt-ltb _ _ h)
 
-  pub rest-parcel : (r : Answer) → 1 ≤ t .count → t .p0 < 0x8000 → r ≡ shortRest q (t .p0) → r ≡ decodeRest q t
+  -- f is the form of the first parcel
+  pub rest-parcel : (r : Answer) (f : ℕ) → 1 ≤ t .count → f ≡ t .p0 / 0x4000 → f < 2 → r ≡ shortRest q (t .p0) → r ≡ decodeRest q t
   unfolding decodeRest
-  rest-parcel r h k e = simp (le-ltb _ _ h, lt-ltb _ _ k) e
+  rest-parcel r f h i k e = simp (le-ltb _ _ h, lt-ltb (t .p0) 0x8000 (omega arith)) e
 
-  pub rest-wide : (r : Answer) → 1 ≤ t .count → 0x8000 ≤ t .p0
+  pub rest-wide : (r : Answer) (f : ℕ) → 1 ≤ t .count → f ≡ t .p0 / 0x4000 → 2 ≤ f
       → r ≡ decodeWide q (t .count - 1) (t .p0) (t .p1) (t .p2) (t .p3) (t .p4) → r ≡ decodeRest q t
   unfolding decodeRest
-  rest-wide r h k e = simp (le-ltb _ _ h, le-ltb _ _ k) e
+  rest-wide r f h i k e = simp (le-ltb _ _ h, le-ltb (t .p0) 0x8000 (omega arith)) e
 
 module _ (t : Text) where
   -- one parcel is taken off, so each count is one less

@@ -8,6 +8,7 @@ pub mod wide;
 
 use crate::short::decode_short;
 use crate::wide::decode_wide;
+use bits::form_bits;
 use isa::Answer;
 use isa::Text;
 ghost use mathlib.Core.Path.{_≡_};
@@ -64,7 +65,7 @@ fn decode_rest(prefix: bool, t: Text) -> Answer
     if t.count < 1 {
         Answer::Refused(CUT_TEXT)
     } else {
-        if t.p0 < 0x8000 {
+        if form_bits(t.p0) < 2 {
             decode_parcel(prefix, t.p0)
         } else {
             decode_wide(prefix, t.count - 1, t.p0, t.p1, t.p2, t.p3, t.p4)

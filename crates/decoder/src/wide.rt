@@ -3,6 +3,7 @@ use crate::CUT_TEXT;
 use crate::dyadic::decode_dyadic;
 use crate::monadic::decode_monadic;
 use bits::field;
+use bits::form_bits;
 use bits::joined;
 use isa::Answer;
 use isa::Wide;
@@ -14,7 +15,11 @@ ghost use Rattle.decoder.specs.Forms.{formOf, afterOf, monadicForm, firs
 pub fn find_form(p: u16) -> Wide
     ensures { λ r. ⌜ r ≡ formOf p ⌝ }
 {
-    if p < 0xC000 { Wide::Three } else { Wide::Five }
+    if form_bits(p) < 3 {
+        Wide::Three
+    } else {
+        Wide::Five
+    }
 }
 
 // How many parcels a form calls for after the first.

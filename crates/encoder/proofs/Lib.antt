@@ -1,6 +1,6 @@
 mod Bounds
-mod ValueExits
 mod ShortExits
+mod ValueExits
 mod OperandExits
 mod MonadicExits
 mod WideExits

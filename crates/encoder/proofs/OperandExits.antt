@@ -18,8 +18,8 @@ use Rattle.isa.specs.Encode.{modeCode, operandCode, isAbsolute, fits16, fitsGen
 pub fits-absolute : (k v : ℕ) (p : Bool) → p ≡ isAbsolute k → p ≡ true → ltb v 65536 ≡ fits16 k v
 fits-absolute k v p e f = simp (sym e, f)
 
-pub fits-extended : (k v x : ℕ) (p : Bool) → p ≡ isAbsolute k → p ≡ false → x ≡ signExtendOf 16 (v % 65536) → eqb x v ≡ fits16 k v
-fits-extended k v x p e f g = simp (sym e, f, g)
+pub fits-extended : (k v y x : ℕ) (p : Bool) → p ≡ isAbsolute k → p ≡ false → y ≡ v % 65536 → x ≡ signExtendOf 16 y → eqb x v ≡ fits16 k v
+fits-extended k v y x p e f h g = simp (sym e, f, g, h)
 
 pub fits-three : (w : Wide) (k v : ℕ) (r : Bool) → w ≡ Three → r ≡ fits16 k v → r ≡ fitsGen w k v
 fits-three w k v r e f = rw e f

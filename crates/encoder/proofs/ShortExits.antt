@@ -2,7 +2,8 @@
 -- Assumes nothing.
 use mathlib.Core.Path.{_≡_, ap, _∙_}
 use mathlib.Core.Bool.{Bool, _&&_}
-use Prim.Native.Nat.{ℕ, _+_, _<_}
+use Prim.Native.Nat.{ℕ, _+_, _*_, _%_, _^_, _<_}
+use native.Mathlib.Nat.{mod-eq-of-lt}
 use native.Mathlib.Omega.{arith}
 use Rattle.isa.specs.declared.FieldMode.{FieldMode}
 use Rattle.isa.specs.declared.FieldMode.the-variants.{Absent, Imm5, Uimm5, Wai5, Stk5, Istk5, Imm10, Pcrel10, Stk8, Fill8}
@@ -19,8 +20,11 @@ use Rattle.encoder.proofs.Bounds.{base-lt}
 pub place-arm : (m n : FieldMode) (f r : ℕ) → m ≡ n → r ≡ sourcePlace n f → r ≡ sourcePlace m f
 place-arm m n f r e g = rw e g
 
+pub place-shifted : (m n : FieldMode) (f : ℕ) → f < 1024 → m ≡ n → f * 32 ≡ sourcePlace n f → f * 32 % 2 ^ 32 ≡ sourcePlace m f
+place-shifted m n f h e g = place-arm m n f (f * 32 % 2 ^ 32) e (mod-eq-of-lt {n = f * 32} {m = 2 ^ 32} (omega arith) ∙ g)
+
 -- short_parcel
-raw-lt : (m : FieldMode) (v : ℕ) → rawField m v < 1024
+pub raw-lt : (m : FieldMode) (v : ℕ) → rawField m v < 1024
 raw-lt Absent v = omega arith
 raw-lt Imm5 v = omega arith
 raw-lt Uimm5 v = omega arith

@@ -24,7 +24,7 @@ fn first_parcel(form: u32, o: u32, s: u32, d: u32) -> u16
     requires { ⌜ (form < 0xC001) × (o < 64) × (s < 16) × (d < 16) ⌝ }
     ensures { λ r. ⌜ r ≡ form + o * 256 + s * 16 + d ⌝ }
 {
-    (form + o * 256 + s * 16 + d) as u16
+    (form + (o << 8) + (s << 4) + d) as u16
 }
 
 fn dyadic_text(prefix: bool, w: Wide, o: u32, s: u32, d: u32, x: u32, y: u32) -> Text

@@ -49,7 +49,7 @@ fn first_parcel(k: u32, j: u32) -> u16
     requires { ⌜ (k < 16) × (j < 16) ⌝ }
     ensures { λ r. ⌜ r ≡ 0x8000 + k * 16 + j ⌝ }
 {
-    (0x8000 + k * 16 + j) as u16
+    (0x8000 + (k << 4) + j) as u16
 }
 
 // The parcels of an instruction that has a code.

@@ -1,4 +1,5 @@
 // Which operands a dyadic may have, and whether a form has room for them.
+use bits::low_half;
 use encodings::modes::mode_code;
 use encodings::modes::operand_code;
 use isa::Operand;
@@ -23,7 +24,7 @@ fn fits_16(k: u32, v: u32) -> bool
     if is_absolute(k) {
         v < 65536
     } else {
-        sign_extend(Width::Half, v % 65536) == v
+        sign_extend(Width::Half, low_half(v) as u32) == v
     }
 }
 

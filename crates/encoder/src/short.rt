@@ -19,11 +19,11 @@ fn source_place(m: FieldMode, f: u32) -> u32
 {
     match m {
         FieldMode::Absent => 0,
-        FieldMode::Imm5 => f * 32,
-        FieldMode::Uimm5 => f * 32,
-        FieldMode::Wai5 => f * 32,
-        FieldMode::Stk5 => f * 32,
-        FieldMode::Istk5 => f * 32,
+        FieldMode::Imm5 => f << 5,
+        FieldMode::Uimm5 => f << 5,
+        FieldMode::Wai5 => f << 5,
+        FieldMode::Stk5 => f << 5,
+        FieldMode::Istk5 => f << 5,
         FieldMode::Imm10 => f,
         FieldMode::Pcrel10 => f,
         FieldMode::Stk8 => f,

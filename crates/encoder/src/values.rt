@@ -12,15 +12,15 @@ pub fn value_again(m: FieldMode, v: u32) -> u32
 {
     match m {
         FieldMode::Absent => 0,
-        FieldMode::Imm5 => extend(27, v % 32),
-        FieldMode::Uimm5 => v % 32,
-        FieldMode::Wai5 => field(v, 2, 5) * 4,
-        FieldMode::Stk5 => field(v, 2, 5) * 4,
-        FieldMode::Istk5 => field(v, 2, 5) * 4,
-        FieldMode::Imm10 => field(v, 2, 10) * 4,
-        FieldMode::Pcrel10 => extend(21, field(v, 1, 10) * 2),
-        FieldMode::Stk8 => field(v, 4, 8) * 16,
-        FieldMode::Fill8 => field(v, 4, 8) * 16 + 0xFFFF_F000,
+        FieldMode::Imm5 => extend(27, field(v, 0, 5)),
+        FieldMode::Uimm5 => field(v, 0, 5),
+        FieldMode::Wai5 => field(v, 2, 5) << 2,
+        FieldMode::Stk5 => field(v, 2, 5) << 2,
+        FieldMode::Istk5 => field(v, 2, 5) << 2,
+        FieldMode::Imm10 => field(v, 2, 10) << 2,
+        FieldMode::Pcrel10 => extend(21, field(v, 1, 10) << 1),
+        FieldMode::Stk8 => field(v, 4, 8) << 4,
+        FieldMode::Fill8 => (field(v, 4, 8) << 4) | 0xFFFF_F000,
     }
 }
 

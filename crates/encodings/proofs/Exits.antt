@@ -1,8 +1,9 @@
 -- An arm of a match shows its equation at the variant that it has found.
 -- Assumes nothing.
-use mathlib.Core.Path.{_≡_, refl}
+use mathlib.Core.Path.{_≡_, refl, _∙_}
 use mathlib.Core.Bool.{Bool, true, false}
-use Prim.Native.Nat.{ℕ}
+use Prim.Native.Nat.{ℕ, _/_, _%_, _^_}
+use native.Mathlib.Nat.{div-one}
 use lib.Dec.{leb}
 use Rattle.isa.specs.declared.ShortRow.{ShortRow}
 use Rattle.isa.specs.declared.ShortListed.{ShortListed}
@@ -30,6 +31,10 @@ monadic-line r q l e f = rw e f
 -- raw_field
 pub raw-arm : (m n : FieldMode) (v r : ℕ) → m ≡ n → r ≡ rawField n v → r ≡ rawField m v
 raw-arm m n v r e f = rw e f
+
+-- a field at bit 0
+pub raw-low : (m n : FieldMode) (v r : ℕ) → m ≡ n → r ≡ v / 2 ^ 0 % 32 → v % 32 ≡ rawField n v → r ≡ rawField m v
+raw-low m n v r e f g = raw-arm m n v r e (f ∙ simp div-one g)
 
 -- has_mode
 module _ (p : Bool) (o : Operand) where

@@ -10,8 +10,8 @@ pub fn raw_field(m: FieldMode, v: u32) -> u32
 {
     match m {
         FieldMode::Absent => 0,
-        FieldMode::Imm5 => v % 32,
-        FieldMode::Uimm5 => v % 32,
+        FieldMode::Imm5 => field(v, 0, 5),
+        FieldMode::Uimm5 => field(v, 0, 5),
         FieldMode::Wai5 => field(v, 2, 5),
         FieldMode::Stk5 => field(v, 2, 5),
         FieldMode::Istk5 => field(v, 2, 5),

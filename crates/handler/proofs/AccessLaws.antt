@@ -88,15 +88,15 @@ module _ (stb : ℕ) (user translated : Bool) (w : Width) (x : ℕ) (m : Memory)
 
 -- ---- writes
 
-pub store-held : (w : Width) (pa v : ℕ) (m : Memory) (a : Journal) (k : ℕ) (z : Answer) (n : Memory) (b : Journal)
-    → k ≡ bytesOf w → pa + k ≤ length m → b ≡ note (pa / 4 * 4) m a → done z n ≡ storeOf (bytesOf w) m pa v
+pub store-held : (w : Width) (pa v : ℕ) (m : Memory) (a : Journal) (k q : ℕ) (z : Answer) (n : Memory) (b : Journal)
+    → k ≡ bytesOf w → pa + k ≤ length m → q ≡ pa / 4 * 4 → b ≡ note q m a → done z n ≡ storeOf (bytesOf w) m pa v
     → gave z (journaled n b) ≡ followed (write (regimeFor 0 true true) w 0 v) (Direct pa) (journaled m a)
 unfolding followed follow followNote touch touchNote storeOf
-store-held w pa v m a k z n b ek h j d =
+store-held w pa v m a k q z n b ek h eq j d =
     let f : holds m pa (bytesOf w) ≡ true = le-leb (pa + bytesOf w) (length m) (rw (sym ek) h) in
     let e : z ≡ storeAnswer (bytesOf w) m pa = ap (λ (x : Effect). x .answer) d in
     let g : n ≡ storeMemory (bytesOf w) m pa v = ap (λ (x : Effect). x .memory) d in
-    rw (f, e, g, j) refl
+    rw (f, e, g, j, eq) refl
 
 pub store-past : (w : Width) (pa v : ℕ) (m : Memory) (a : Journal) (k : ℕ) (z : Answer) → k ≡ bytesOf w → length m < pa + k → z ≡ bad 10
     → gave z (journaled m a) ≡ followed (write (regimeFor 0 true true) w 0 v) (Direct pa) (journaled m a)
@@ -145,20 +145,38 @@ module _ (stb : ℕ) (user translated : Bool) (w : Width) (x v : ℕ) (m : Memor
 -- ---- text
 
 module _ (r : Regime) (x : ℕ) (m : Memory) (a : Journal) (y : Walk) where
-  pub fetch-fault : (k : Walk) (c : ℕ) (z : Answer) → k ≡ y → k ≡ Fault c → z ≡ bad c → gave z (journaled m a) ≡ followed (fetch r x) y (journaled m a)
+  fetch-fault : (k : Walk) (c : ℕ) (z : Answer) → k ≡ y → k ≡ Fault c → z ≡ bad c → gave z (journaled m a) ≡ followed (fetch r x) y (journaled m a)
   unfolding followed follow followNote
   fetch-fault k c z e f g = rw (sym e ∙ f, g) refl
 
-  pub fetch-direct : (k : Walk) (pa : ℕ) (z : Answer) → k ≡ y → k ≡ Direct pa → z ≡ load 2 m pa → gave z (journaled m a) ≡ followed (fetch r x) y (journaled m a)
+  fetch-direct : (k : Walk) (pa : ℕ) (z : Answer) → k ≡ y → k ≡ Direct pa → z ≡ load 2 m pa → gave z (journaled m a) ≡ followed (fetch r x) y (journaled m a)
   unfolding followed follow followNote touch touchNote
   fetch-direct k pa z e f g = rw (sym e ∙ f, g) refl
 
-  pub fetch-paged : (k : Walk) (p pa : ℕ) (z : Answer) (n : Memory) (b : Journal) → k ≡ y → k ≡ Paged p pa
+  fetch-paged : (k : Walk) (p pa : ℕ) (z : Answer) (n : Memory) (b : Journal) → k ≡ y → k ≡ Paged p pa
       → journaled n b ≡ journaled (recorded Fetch p m) (entryNote Fetch p m a) → z ≡ load 2 n pa
       → gave z (journaled n b) ≡ followed (fetch r x) y (journaled m a)
   unfolding followed follow followNote touch touchNote walkNote
   fetch-paged k p pa z n b e f d g =
       rw (sym e ∙ f) (ap (λ (v : Answer). gave v (journaled n b)) g ∙ ap (λ (t : Journaled). gave (load 2 (t .memory) pa) t) d)
+
+-- k is the walk of i, the address with its low bit 0
+module _ (r : Regime) (user : Bool) (stb x i : ℕ) (m : Memory) (a : Journal) (k : Walk) (there : i ≡ x / 2 * 2) (is : k ≡ walk user stb Fetch i m) where
+  found : k ≡ walk user stb Fetch (x / 2 * 2) m
+  found = is ∙ ap (λ (n : ℕ). walk user stb Fetch n m) there
+
+  pub text-fault : (c : ℕ) (z : Answer) → k ≡ Fault c → z ≡ bad c
+      → gave z (journaled m a) ≡ followed (fetch r x) (walk user stb Fetch (x / 2 * 2) m) (journaled m a)
+  text-fault c z f g = fetch-fault r x m a (walk user stb Fetch (x / 2 * 2) m) k c z found f g
+
+  pub text-direct : (pa : ℕ) (z : Answer) → k ≡ Direct pa → z ≡ load 2 m pa
+      → gave z (journaled m a) ≡ followed (fetch r x) (walk user stb Fetch (x / 2 * 2) m) (journaled m a)
+  text-direct pa z f g = fetch-direct r x m a (walk user stb Fetch (x / 2 * 2) m) k pa z found f g
+
+  pub text-paged : (p pa : ℕ) (z : Answer) (n : Memory) (b : Journal) → k ≡ Paged p pa
+      → journaled n b ≡ journaled (recorded Fetch p m) (entryNote Fetch p m a) → z ≡ load 2 n pa
+      → gave z (journaled n b) ≡ followed (fetch r x) (walk user stb Fetch (x / 2 * 2) m) (journaled m a)
+  text-paged p pa z n b f d g = fetch-paged r x m a (walk user stb Fetch (x / 2 * 2) m) k p pa z n b found f d g
 
 pub text-is : (r : Regime) (x : ℕ) → x < 2 ^ 32 → addressOf (fetch r x) ≡ x / 2 * 2
 text-is r x h = ap (λ (n : ℕ). n / 2 * 2) (word-is x h)
@@ -173,9 +191,9 @@ module _ (stb : ℕ) (user translated : Bool) (x : ℕ) (m : Memory) (a : Journa
       i ∙ virtual-is (fetch (regimeFor stb user true) x) stb (x / 2 * 2) user Fetch (journaled m a) refl (text-is (regimeFor stb user true) x h) (even (regimeFor stb user true) x) refl
       ∙ ap (λ (c : Bool). logging (fetch (regimeFor stb user c) x) (journaled m a)) (sym v)
 
-  pub fetch-physical : (z : Answer) → x < 2 ^ 32 → translated ≡ false → z ≡ load 2 m (x / 2 * 2) → gave z (journaled m a) ≡ logging (fetch (regimeFor stb user translated) x) (journaled m a)
-  fetch-physical z h v g =
-      fetch-direct (regimeFor stb user false) x m a (Direct (x / 2 * 2)) (Direct (x / 2 * 2)) (x / 2 * 2) z refl refl g
+  pub fetch-physical : (i : ℕ) (z : Answer) → x < 2 ^ 32 → translated ≡ false → i ≡ x / 2 * 2 → z ≡ load 2 m i → gave z (journaled m a) ≡ logging (fetch (regimeFor stb user translated) x) (journaled m a)
+  fetch-physical i z h v e g =
+      fetch-direct (regimeFor stb user false) x m a (Direct (x / 2 * 2)) (Direct (x / 2 * 2)) (x / 2 * 2) z refl refl (g ∙ ap (load 2 m) e)
       ∙ physical-is (fetch (regimeFor stb user false) x) stb (x / 2 * 2) user Fetch (journaled m a) refl (text-is (regimeFor stb user false) x h) (even (regimeFor stb user false) x) refl
       ∙ ap (λ (c : Bool). logging (fetch (regimeFor stb user c) x) (journaled m a)) (sym v)
 

@@ -2,6 +2,7 @@
 // whether translated. Untranslated ones stay clear of the walk.
 use crate::journal::note;
 use crate::journal::record_entry;
+use bits::clear_low;
 use memory::answers::good;
 use memory::answers::raised;
 use memory::loads::load;
@@ -82,7 +83,7 @@ pub fn store_noted(m: &mut [u8], journal: &mut [u64; 201], w: Width, pa: u32, v:
     ensures { λ r. ⌜ Follows r m journal (writes (regimeFor 0 true true) w 0 v) (walked.Direct pa) ⌝ }
 {
     if pa as usize + word::widths::bytes(w) as usize <= m.len() {
-        note(m, journal, pa / 4 * 4);
+        note(m, journal, clear_low(pa, 2));
         store(m, w, pa, v)
     } else {
         raised(10)
@@ -138,7 +139,7 @@ pub fn write(
 fn fetch_walked(m: &mut [u8], journal: &mut [u64; 201], stb: u32, user: bool, a: u32) -> u64
     ensures { λ r. ⌜ Follows r m journal (fetches (regimeFor stb user true) a) (walk user stb kind.Fetch (a / 2 * 2) (now (m .entry))) ⌝ }
 {
-    let x = translate(m, user, stb, Kind::Fetch, a / 2 * 2);
+    let x = translate(m, user, stb, Kind::Fetch, clear_low(a, 1));
     match x {
         Walk::Fault(c) => raised(c),
         Walk::Direct(pa) => load_half(m, pa),
@@ -163,7 +164,7 @@ pub fn fetch(
     if translated {
         fetch_walked(m, journal, stb, user, a)
     } else {
-        load_half(m, a / 2 * 2)
+        load_half(m, clear_low(a, 1))
     }
 }
 

@@ -23,10 +23,10 @@ fn shares_walk(m: &[u8], stb: u32, k: Kind, a: u32, p: u32, pa: u32) -> bool
     if m.len() < pa as usize + 16 {
         return false;
     }
-    if p / 16 == pa / 16 {
+    if p >> 4 == pa >> 4 {
         return false;
     }
-    e / 16 != pa / 16
+    e >> 4 != pa >> 4
 }
 
 // The place by the walk of its address.

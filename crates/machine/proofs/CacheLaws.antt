@@ -1,6 +1,6 @@
 -- The stack cache after a write: what was written is read there, all else as before, and the shape stays.
 -- Assumes nothing.
-use mathlib.Core.Path.{_≡_, sym, ap, _∙_}
+use mathlib.Core.Path.{_≡_, refl, sym, ap, _∙_}
 use mathlib.Core.List.{List, []}
 use mathlib.Core.Logic.{_⊎_, ⊎-elim}
 use Prim.Native.Nat.{ℕ, _+_, _-_, _*_, _/_, _%_, _^_, _≤_, _<_}
@@ -16,6 +16,13 @@ use Rattle.word.specs.Widths.{bytesOf}
 use Rattle.machine.specs.Cache.{Cache, cacheWord, putWord, below, part, inserted, cacheRead, cacheWrite}
 use Rattle.machine.specs.Shapes.{CacheShape}
 use Rattle.machine.proofs.Digits.{lowBit, replaced-shifted, part-field, inserted-replaced, part-inserted, part-after, part-before}
+
+-- the word at an address, by the fields i and j of it
+pub word-by-fields : (q : Cache) (a i j : ℕ) → i ≡ a / 16 % 16 → j ≡ a / 4 % 4 → getD (getD q i []) j 0 ≡ cacheWord q a
+word-by-fields q a i j e f = rw (e, f) refl
+
+pub put-by-fields : (q : Cache) (a v i j : ℕ) → i ≡ a / 16 % 16 → j ≡ a / 4 % 4 → set q i (set (getD q i []) j v) ≡ putWord q a v
+put-by-fields q a v i j e f = rw (e, f) refl
 
 -- a quad-word replaced by one of four words
 pub shape-set : (q : Cache) (i : ℕ) (w : List ℕ) → CacheShape q → i < 16 → length w ≡ 4 → CacheShape (set q i w)

@@ -10,8 +10,8 @@ ghost use Rattle.machine.specs.Cache.{cacheWord, putWord, part, inserted
 pub fn cache_word(q: &[[u32; 4]; 16], a: u32) -> u32
     ensures { λ r. ⌜ r ≡ cacheWord (now (q .entry)) a ⌝ }
 {
-    let i = (a / 16 % 16) as usize;
-    let j = (a / 4 % 4) as usize;
+    let i = field(a, 4, 4) as usize;
+    let j = field(a, 2, 2) as usize;
     q[i][j]
 }
 
@@ -19,8 +19,8 @@ pub fn cache_word(q: &[[u32; 4]; 16], a: u32) -> u32
 pub fn put_word(q: &mut [[u32; 4]; 16], a: u32, v: u32)
     ensures { λ r. ⌜ now (q .exit) ≡ putWord (now (q .entry)) a v ⌝ }
 {
-    let i = (a / 16 % 16) as usize;
-    let j = (a / 4 % 4) as usize;
+    let i = field(a, 4, 4) as usize;
+    let j = field(a, 2, 2) as usize;
     q[i][j] = v;
 }
 

@@ -21,5 +21,5 @@ pub fn raised(c: u32) -> u64
 pub fn low32(a: u64) -> u32
     ensures { λ r. ⌜ r ≡ a % 2 ^ 32 ⌝ }
 {
-    (a % 0x1_0000_0000) as u32
+    (a & 0xFFFF_FFFF) as u32
 }

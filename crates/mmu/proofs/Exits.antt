@@ -55,26 +55,26 @@ module _ (stb va : ℕ) (m : Memory) (p x : ℕ) (place : p ≡ segmentPlace stb
 
 -- the second stage: t is what the entry permits
 module _ (user : Bool) (k : Kind) (va e : ℕ) (t : Bool) (is : t ≡ permits user k e) where
-  -- a is the page number of the address, b the bound, x the segment's base, y the offset in it
+  -- a is the page number of the address, b the bound, x the segment's base, y the offset in it, z both
   module _ (a b : ℕ) (number : a ≡ fieldOf va 12 10) (bound : b ≡ fieldOf e 12 10) where
-    pub nonpaged-permitted : (leb a b && t) ≡ true → (x y : ℕ) → e < 2 ^ 32 → x ≡ fieldOf e 22 10 → y ≡ fieldOf va 0 22
-        → Direct (x * 0x40_0000 + y) ≡ nonpagedOf user k va e
+    pub nonpaged-permitted : (leb a b && t) ≡ true → (x y z : ℕ) → e < 2 ^ 32 → x ≡ fieldOf e 22 10 → y ≡ fieldOf va 0 22
+        → z ≡ x * 0x40_0000 + y → Direct z ≡ nonpagedOf user k va e
     unfolding nonpagedOf
-    nonpaged-permitted f x y l g h =
-        let d : x * 0x40_0000 + y ≡ e / 0x40_0000 * 0x40_0000 + va % 0x40_0000 = omega arith in
+    nonpaged-permitted f x y z l g h i =
+        let d : z ≡ e / 0x40_0000 * 0x40_0000 + va % 0x40_0000 = omega arith in
         rw (← number, ← bound, ← is, f, d) refl
 
     pub nonpaged-fault : (leb a b && t) ≡ false → (c : ℕ) → c ≡ faultOf k → Fault c ≡ nonpagedOf user k va e
     unfolding nonpagedOf
     nonpaged-fault f c g = rw (← number, ← bound, ← is, f, g) refl
 
-  -- v is the valid bit, x the page's base, y the offset in it
+  -- v is the valid bit, x the page's base, y the offset in it, z both
   module _ (p : ℕ) (v : Bool) (by : v ≡ valid e) where
-    pub page-permitted : (v && t) ≡ true → (x y : ℕ) → e < 2 ^ 32 → x ≡ fieldOf e 12 20 → y ≡ fieldOf va 0 12
-        → Paged p (x * 0x1000 + y) ≡ pageOf user k va p e
+    pub page-permitted : (v && t) ≡ true → (x y z : ℕ) → e < 2 ^ 32 → x ≡ fieldOf e 12 20 → y ≡ fieldOf va 0 12
+        → z ≡ x * 0x1000 + y → Paged p z ≡ pageOf user k va p e
     unfolding pageOf
-    page-permitted f x y l g h =
-        let d : x * 0x1000 + y ≡ e / 0x1000 * 0x1000 + va % 0x1000 = omega arith in
+    page-permitted f x y z l g h i =
+        let d : z ≡ e / 0x1000 * 0x1000 + va % 0x1000 = omega arith in
         rw (← by, ← is, f, d) refl
 
     pub page-fault : (v && t) ≡ false → (c : ℕ) → c ≡ faultOf k → Fault c ≡ pageOf user k va p e
@@ -109,16 +109,16 @@ set-4 : (b : ℕ) → setOf b 4 ≡ withBit 16 b
 set-4 b = omega arith
 
 module _ (k : Kind) (b : ℕ) (byte : b < 256) (w : Bool) (is : w ≡ isWrite k) (x : ℕ) (e : x ≡ setOf b 3) where
-  pub marked-write : w ≡ true → (y : ℕ) → y ≡ setOf x 4 → y % 256 ≡ marked k b
+  pub marked-write : w ≡ true → (y z : ℕ) → y ≡ setOf x 4 → z ≡ fieldOf y 0 8 → z ≡ marked k b
   unfolding marked
-  marked-write t y f =
+  marked-write t y z f g =
       let l = marked-byte k b byte in
       let d : marked k b ≡ y = rw (← is, t, f, set-4 x, e, set-3 b) refl in
       omega arith
 
-  pub marked-other : w ≡ false → x % 256 ≡ marked k b
+  pub marked-other : w ≡ false → (z : ℕ) → z ≡ fieldOf x 0 8 → z ≡ marked k b
   unfolding marked
-  marked-other t =
+  marked-other t z g =
       let l = marked-byte k b byte in
       let d : marked k b ≡ x = rw (← is, t, e, set-3 b) refl in
       omega arith

@@ -2,6 +2,7 @@
 use crate::Kind;
 use bits::bit;
 use bits::field;
+use bits::placed;
 ghost use mathlib.Core.Path.{_≡_};
 ghost use Rattle.mmu.specs.Walk.{faultOf, isWrite, segmentPlace, pagePlace, permits as permitsOf};
 
@@ -30,14 +31,14 @@ pub fn is_write(k: Kind) -> bool
 pub fn segment_place(stb: u32, va: u32) -> u32
     ensures { λ r. ⌜ r ≡ segmentPlace stb va ⌝ }
 {
-    field(stb, 12, 20) * 0x1000 + field(va, 22, 10) * 4
+    placed(field(stb, 12, 20), 12, field(va, 22, 10) << 2)
 }
 
 // The address of a page entry.
 pub fn page_place(entry: u32, va: u32) -> u32
     ensures { λ r. ⌜ r ≡ pagePlace entry va ⌝ }
 {
-    field(entry, 12, 20) * 0x1000 + field(va, 12, 10) * 4
+    placed(field(entry, 12, 20), 12, field(va, 12, 10) << 2)
 }
 
 // Whether a valid entry permits an access, at user level or not.

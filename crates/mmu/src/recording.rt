@@ -1,6 +1,7 @@
 // The recording bits of a page entry: Referenced, and at a write Modified.
 use crate::Kind;
 use crate::entries::is_write;
+use bits::field;
 use bits::set_bit;
 ghost use mathlib.Core.Path.{_≡_};
 ghost use Prim.Native.Nat.{_+_};
@@ -13,9 +14,9 @@ pub fn mark(k: Kind, b: u8) -> u8
     ensures { λ r. ⌜ r ≡ marked k b ⌝ }
 {
     if is_write(k) {
-        (set_bit(set_bit(b as u32, 3), 4) % 256) as u8
+        field(set_bit(set_bit(b as u32, 3), 4), 0, 8) as u8
     } else {
-        (set_bit(b as u32, 3) % 256) as u8
+        field(set_bit(b as u32, 3), 0, 8) as u8
     }
 }
 

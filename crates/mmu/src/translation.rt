@@ -8,6 +8,7 @@ use crate::entries::permits;
 use crate::entries::segment_place;
 use bits::bit;
 use bits::field;
+use bits::placed;
 use memory::answers::low32;
 use memory::loads::load_word;
 ghost use mathlib.Core.Path.{_≡_};
@@ -51,7 +52,7 @@ pub fn nonpaged(user: bool, k: Kind, va: u32, e: u32) -> Walk
     ensures { λ r. ⌜ r ≡ nonpagedOf user k va e ⌝ }
 {
     if (field(va, 12, 10) <= field(e, 12, 10)) & permits(user, k, e) {
-        Walk::Direct(field(e, 22, 10) * 0x40_0000 + field(va, 0, 22))
+        Walk::Direct(placed(field(e, 22, 10), 22, field(va, 0, 22)))
     } else {
         Walk::Fault(fault_of(k))
     }
@@ -62,7 +63,7 @@ pub fn page(user: bool, k: Kind, va: u32, p: u32, e: u32) -> Walk
     ensures { λ r. ⌜ r ≡ pageOf user k va p e ⌝ }
 {
     if bit(e, 0) & permits(user, k, e) {
-        Walk::Paged(p, field(e, 12, 20) * 0x1000 + field(va, 0, 12))
+        Walk::Paged(p, placed(field(e, 12, 20), 12, field(va, 0, 12)))
     } else {
         Walk::Fault(fault_of(k))
     }

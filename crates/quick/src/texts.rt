@@ -47,7 +47,7 @@ pub(crate) fn plan_at(m: &[u8], i: usize, p: u16) -> Plan
     requires { ⌜ (i + 10 ≤ length (now m)) × (p ≡ parcelAt (now m) i) × (p ≡ cpuPrefix → ⊥) ⌝ }
     ensures { λ x. ⌜ x ≡ planOf (decodeOf (textAt (now (m .entry)) i)) ⌝ }
 {
-    if p < 0x8000 {
+    if p >> 14 < 2 {
         return plan_short(p);
     }
     plan_wide(
@@ -63,8 +63,9 @@ pub(crate) fn plan_at(m: &[u8], i: usize, p: u16) -> Plan
 pub(crate) fn length_at(p: u16) -> u32
     ensures { λ x. ⌜ x ≡ lengthAt p ⌝ }
 {
-    if p < 0x8000 {
+    let form = p >> 14;
+    if form < 2 {
         return 1;
     }
-    if p < 0xC000 { 3 } else { 5 }
+    if form < 3 { 3 } else { 5 }
 }

@@ -9,7 +9,7 @@ use lib.Dec.{ltb, eqb}
 use Rattle.word.specs.declared.Sum.{Sum}
 use Rattle.word.specs.declared.Quotient.{Quotient}
 use Rattle.word.specs.declared.Tagged.{Tagged}
-use Rattle.word.specs.Signed.{biased, outside, negativeOf, magnitudeOf, withSign, differOf, limitOf}
+use Rattle.word.specs.Signed.{negativeOf, magnitudeOf, withSign, differOf, limitOf}
 use Rattle.word.specs.Sums.{plusOf, minusOf, addOf, subOf}
 use Rattle.word.specs.Products.{mulOf, udivOf, uremOf, divOf}
 use Rattle.word.specs.Shifts.{shlOf, ushrOf, shrOf}
@@ -18,18 +18,19 @@ use Rattle.word.specs.declared.Width.the-variants.{Byte, Half, Word}
 use Rattle.word.specs.Widths.{bitsOf, signExtendOf}
 use Rattle.word.proofs.WidthLaws.{bits-le, sign-extend-by-shifts}
 use Rattle.word.proofs.Laws.{shr-lt}
+use Rattle.word.proofs.Flags.{wrapped-below, sum-overflow, difference-overflow}
 use Rattle.word.specs.Tags.{badTagOf, checkedOf, taggedOf}
 
--- sums and differences: x and y are the biased operands
-pub added : (b a v x y : ℕ) (c o : Bool) → v ≡ plusOf b a → c ≡ ltb 0xFFFF_FFFF (b + a) → o ≡ outside (x + y) → x ≡ biased b → y ≡ biased a
-    → _≡_ {A = Sum} (record { value = v; carry = c; overflow = o }) (addOf b a)
+-- sums and differences: v has wrapped, x and y tell which signs differ
+pub added : (b a v : ℕ) (c x y : Bool) → b < 2 ^ 32 → a < 2 ^ 32 → v ≡ plusOf b a → c ≡ ltb v b → x ≡ differOf b v → y ≡ differOf a v
+    → _≡_ {A = Sum} (record { value = v; carry = c; overflow = x && y }) (addOf b a)
 unfolding addOf
-added b a v x y c o e f g h k = rw (e, f, g, h, k)
+added b a v c x y h g e f i j = rw (f, i, j, e, wrapped-below b a h g, sum-overflow b a h g)
 
-pub subtracted : (b a v x y : ℕ) (c o : Bool) → v ≡ minusOf b a → c ≡ ltb b a → o ≡ outside (x + 2 ^ 32 - y) → x ≡ biased b → y ≡ biased a
-    → _≡_ {A = Sum} (record { value = v; carry = c; overflow = o }) (subOf b a)
+pub subtracted : (b a v : ℕ) (c x y : Bool) → b < 2 ^ 32 → a < 2 ^ 32 → v ≡ minusOf b a → c ≡ ltb b a → x ≡ differOf b a → y ≡ differOf b v
+    → _≡_ {A = Sum} (record { value = v; carry = c; overflow = x && y }) (subOf b a)
 unfolding subOf
-subtracted b a v x y c o e f g h k = rw (e, f, g, h, k)
+subtracted b a v c x y h g e f i j = rw (f, i, j, e, difference-overflow b a h g)
 
 -- p is the unsigned product, x and y the magnitudes, q their product, l the limit of its sign d
 pub multiplied : (b a v p x y q l : ℕ) (c d o : Bool) → v ≡ p % 2 ^ 32 → c ≡ ltb 0xFFFF_FFFF p → o ≡ ltb l q → p ≡ b * a → l ≡ limitOf d

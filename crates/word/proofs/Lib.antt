@@ -1,4 +1,5 @@
 mod Exits
+mod Flags
 pub mod Laws
 pub mod Meaning
 pub mod SignedProducts

@@ -1,7 +1,7 @@
 // Sums, differences and comparisons of words.
 use crate::Sum;
+use crate::products::differ;
 ghost use mathlib.Core.Path.{_≡_};
-ghost use Rattle.word.specs.Signed.{biased, outside};
 ghost use Rattle.word.specs.Sums.{plusOf, minusOf, addOf, subOf, equalOf, greaterOf, higherOf};
 
 // a + b, modulo 2^32: every address sum.
@@ -18,39 +18,27 @@ pub fn minus(a: u32, b: u32) -> u32
     std::num::wrapping_sub_u32(a, b)
 }
 
-// The signed number of a word, plus 2^31.
-pub fn bias(x: u32) -> u64
-    ensures { λ r. ⌜ r ≡ biased x ⌝ }
-{
-    plus(x, 0x8000_0000) as u64
-}
-
-// Whether a signed number, given plus 2^32, is no signed word.
-pub fn is_outside(n: u64) -> bool
-    ensures { λ r. ⌜ r ≡ outside n ⌝ }
-{
-    (n < 0x8000_0000) | (0x1_7FFF_FFFF < n)
-}
-
-// ADD: b + a.
+// ADD: b + a. A sum below an operand has wrapped; one whose sign is neither operand's has overflowed.
 pub fn add(b: u32, a: u32) -> Sum
     ensures { λ r. ⌜ r ≡ addOf b a ⌝ }
 {
+    let value = plus(b, a);
     Sum {
-        value: plus(b, a),
-        carry: 0xFFFF_FFFF < b as u64 + a as u64,
-        overflow: is_outside(bias(b) + bias(a)),
+        value,
+        carry: value < b,
+        overflow: differ(b, value) & differ(a, value),
     }
 }
 
-// SUB: b - a; the carry is the borrow.
+// SUB: b - a; the carry is the borrow. Of operands with different signs the difference has the sign of b, or overflowed.
 pub fn sub(b: u32, a: u32) -> Sum
     ensures { λ r. ⌜ r ≡ subOf b a ⌝ }
 {
+    let value = minus(b, a);
     Sum {
-        value: minus(b, a),
+        value,
         carry: b < a,
-        overflow: is_outside(bias(b) + 0x1_0000_0000 - bias(a)),
+        overflow: differ(b, a) & differ(b, value),
     }
 }
 
@@ -65,7 +53,7 @@ pub fn equal(src1: u32, src2: u32) -> bool
 pub fn greater(src1: u32, src2: u32) -> bool
     ensures { λ r. ⌜ r ≡ greaterOf src1 src2 ⌝ }
 {
-    bias(src2) < bias(src1)
+    plus(src2, 0x8000_0000) < plus(src1, 0x8000_0000)
 }
 
 // CMPHI: src1 > src2, unsigned.

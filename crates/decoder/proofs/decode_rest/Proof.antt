@@ -3,6 +3,9 @@ use borrow.Author.Needs.{needs}
 use Rattle.decoder.proofs.decode_rest.Statement.{statement}
 use Rattle.decoder.proofs.decode_rest.Tie as tie
 
+form-bits-requires : tie.Need-form-bits-requires
+form-bits-requires c κs = search needs
+
 decode-parcel-requires : tie.Need-decode-parcel-requires
 decode-parcel-requires c κs = search needs
 
@@ -20,4 +23,11 @@ returns-3 c = search (needs, rest-wide)
 
 pub decode-rest-spec : {M : Type 1} → statement M
 decode-rest-spec =
-    tie.close (tie.spec decode-parcel-requires decode-wide-requires returns returns-2 returns-3)
+    tie.close
+    (tie.spec
+    form-bits-requires
+    decode-parcel-requires
+    decode-wide-requires
+    returns
+    returns-2
+    returns-3)

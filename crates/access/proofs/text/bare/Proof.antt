@@ -3,6 +3,9 @@ use borrow.Author.Needs.{needs}
 use Rattle.access.proofs.text.bare.Statement.{statement}
 use Rattle.access.proofs.text.bare.Tie as tie
 
+form-bits-requires : tie.Need-form-bits-requires
+form-bits-requires c κs = search needs
+
 returns : tie.Need-returns
 returns c = search (needs, bare-one)
 
@@ -34,6 +37,7 @@ pub bare-spec : {M : Type 1} → statement M
 bare-spec =
     tie.close
     (tie.spec
+    form-bits-requires
     returns
     high-half-requires
     low-half-requires

@@ -1,12 +1,16 @@
-use Rattle.access.proofs.OperandLaws.{operands-none, operands-first, operands-three, operands-second, operands-five}
 use Rattle.program.specs.Journal.{journaled}
 use Rattle.machine.specs.Status.{cpu}
+use Rattle.access.proofs.OperandLaws.{operands-none, operands-first, operands-three, operands-second, operands-five}
+use native.Mathlib.Omega.{arith}
 use borrow.Author.Needs.{needs}
 use Rattle.access.proofs.text.fetch_operands.Statement.{statement}
 use Rattle.access.proofs.text.fetch_operands.Tie as tie
 
+form-bits-requires : tie.Need-form-bits-requires
+form-bits-requires c κs = search needs
+
 returns : tie.Need-returns
-returns c = λ q. operands-none (cpu (c .before .before .args .r .now) q) (c .before .before .args .a) (c .before .before .args .p) (journaled (c .before .before .args .m .now) (c .before .before .args .journal .now)) (c .if1 .taken)
+returns c = λ q. operands-none (cpu (c .before .before .before .args .r .now) q) (c .before .before .before .args .a) (c .before .before .before .args .p) (journaled (c .before .before .before .args .m .now) (c .before .before .before .args .journal .now)) (omega (arith, c .before .form-bits .ensures, c .if1 .taken))
 
 fetch-two-requires : tie.Need-fetch-two-requires
 fetch-two-requires c κs = search needs
@@ -15,7 +19,7 @@ same-length : tie.Need-same-length
 same-length c = search needs
 
 returns-2 : tie.Need-returns-2
-returns-2 c = λ q. operands-first (cpu (c .before .before .before .before .before .before .before .before .args .r .now) q) (c .before .before .before .before .before .before .before .before .args .a) (c .before .before .before .before .before .before .before .before .args .p) (journaled (c .before .before .before .before .before .before .before .before .args .m .now) (c .before .before .before .before .before .before .before .before .args .journal .now)) (c .before .before .before .before .before .before .if1 .left) _ _ (c .before .before .before .fetch-two .ensures q) (c .if2 .taken)
+returns-2 c = λ q. operands-first (cpu (c .before .before .before .before .before .before .before .before .before .args .r .now) q) (c .before .before .before .before .before .before .before .before .before .args .a) (c .before .before .before .before .before .before .before .before .before .args .p) (journaled (c .before .before .before .before .before .before .before .before .before .args .m .now) (c .before .before .before .before .before .before .before .before .before .args .journal .now)) (omega (arith, c .before .before .before .before .before .before .before .form-bits .ensures, c .before .before .before .before .before .before .if1 .left)) _ _ (c .before .before .before .fetch-two .ensures q) (c .if2 .taken)
 
 low32-requires : tie.Need-low32-requires
 low32-requires c κs = search needs
@@ -24,7 +28,7 @@ same-length-2 : tie.Need-same-length-2
 same-length-2 c = search needs
 
 returns-3 : tie.Need-returns-3
-returns-3 c = λ q. operands-three (cpu (c .before .before .before .before .before .before .before .before .before .before .args .r .now) q) (c .before .before .before .before .before .before .before .before .before .before .args .a) (c .before .before .before .before .before .before .before .before .before .before .args .p) (journaled (c .before .before .before .before .before .before .before .before .before .before .args .m .now) (c .before .before .before .before .before .before .before .before .before .before .args .journal .now)) (c .before .before .before .before .before .before .before .before .if1 .left) _ _ (c .before .before .before .before .before .fetch-two .ensures q) (c .before .before .if2 .left) _ (c .before .low32 .ensures) (c .if3 .taken)
+returns-3 c = λ q. operands-three (cpu (c .before .before .before .before .before .before .before .before .before .before .before .args .r .now) q) (c .before .before .before .before .before .before .before .before .before .before .before .args .a) (c .before .before .before .before .before .before .before .before .before .before .before .args .p) (journaled (c .before .before .before .before .before .before .before .before .before .before .before .args .m .now) (c .before .before .before .before .before .before .before .before .before .before .before .args .journal .now)) (omega (arith, c .before .before .before .before .before .before .before .before .before .form-bits .ensures, c .before .before .before .before .before .before .before .before .if1 .left)) _ _ (c .before .before .before .before .before .fetch-two .ensures q) (c .before .before .if2 .left) _ (c .before .low32 .ensures) (omega (arith, c .before .before .before .before .before .before .before .before .before .form-bits .ensures, c .if3 .taken))
 
 plus-requires : tie.Need-plus-requires
 plus-requires c κs = search needs
@@ -36,7 +40,7 @@ same-length-3 : tie.Need-same-length-3
 same-length-3 c = search needs
 
 returns-4 : tie.Need-returns-4
-returns-4 c = λ q. operands-second (cpu (c .before .before .before .before .before .before .before .before .before .before .before .before .before .before .before .before .before .args .r .now) q) (c .before .before .before .before .before .before .before .before .before .before .before .before .before .before .before .before .before .args .a) (c .before .before .before .before .before .before .before .before .before .before .before .before .before .before .before .before .before .args .p) (journaled (c .before .before .before .before .before .before .before .before .before .before .before .before .before .before .before .before .before .args .m .now) (c .before .before .before .before .before .before .before .before .before .before .before .before .before .before .before .before .before .args .journal .now)) (c .before .before .before .before .before .before .before .before .before .before .before .before .before .before .before .if1 .left) _ _ (c .before .before .before .before .before .before .before .before .before .before .before .before .fetch-two .ensures q) (c .before .before .before .before .before .before .before .before .before .if2 .left) _ (c .before .before .before .before .before .before .before .before .low32 .ensures) (c .before .before .before .before .before .before .before .if3 .left) _ _ _ (c .before .before .before .before .plus .ensures) (c .before .before .before .fetch-two2 .ensures q) (c .if4 .taken)
+returns-4 c = λ q. operands-second (cpu (c .before .before .before .before .before .before .before .before .before .before .before .before .before .before .before .before .before .before .args .r .now) q) (c .before .before .before .before .before .before .before .before .before .before .before .before .before .before .before .before .before .before .args .a) (c .before .before .before .before .before .before .before .before .before .before .before .before .before .before .before .before .before .before .args .p) (journaled (c .before .before .before .before .before .before .before .before .before .before .before .before .before .before .before .before .before .before .args .m .now) (c .before .before .before .before .before .before .before .before .before .before .before .before .before .before .before .before .before .before .args .journal .now)) (omega (arith, c .before .before .before .before .before .before .before .before .before .before .before .before .before .before .before .before .form-bits .ensures, c .before .before .before .before .before .before .before .before .before .before .before .before .before .before .before .if1 .left)) _ _ (c .before .before .before .before .before .before .before .before .before .before .before .before .fetch-two .ensures q) (c .before .before .before .before .before .before .before .before .before .if2 .left) _ (c .before .before .before .before .before .before .before .before .low32 .ensures) (omega (arith, c .before .before .before .before .before .before .before .before .before .before .before .before .before .before .before .before .form-bits .ensures, c .before .before .before .before .before .before .before .if3 .left)) _ _ _ (c .before .before .before .before .plus .ensures) (c .before .before .before .fetch-two2 .ensures q) (c .if4 .taken)
 
 low32-requires-2 : tie.Need-low32-requires-2
 low32-requires-2 c κs = search needs
@@ -45,12 +49,13 @@ same-length-4 : tie.Need-same-length-4
 same-length-4 c = search needs
 
 returns-5 : tie.Need-returns-5
-returns-5 c = λ q. operands-five (cpu (c .before .before .before .before .before .before .before .before .before .before .before .before .before .before .before .before .before .before .args .r .now) q) (c .before .before .before .before .before .before .before .before .before .before .before .before .before .before .before .before .before .before .args .a) (c .before .before .before .before .before .before .before .before .before .before .before .before .before .before .before .before .before .before .args .p) (journaled (c .before .before .before .before .before .before .before .before .before .before .before .before .before .before .before .before .before .before .args .m .now) (c .before .before .before .before .before .before .before .before .before .before .before .before .before .before .before .before .before .before .args .journal .now)) (c .before .before .before .before .before .before .before .before .before .before .before .before .before .before .before .before .if1 .left) _ _ (c .before .before .before .before .before .before .before .before .before .before .before .before .before .fetch-two .ensures q) (c .before .before .before .before .before .before .before .before .before .before .if2 .left) _ (c .before .before .before .before .before .before .before .before .before .low32 .ensures) (c .before .before .before .before .before .before .before .before .if3 .left) _ _ _ (c .before .before .before .before .before .plus .ensures) (c .before .before .before .before .fetch-two2 .ensures q) (c .before .if4 .left) _ (c .low322 .ensures)
+returns-5 c = λ q. operands-five (cpu (c .before .before .before .before .before .before .before .before .before .before .before .before .before .before .before .before .before .before .before .args .r .now) q) (c .before .before .before .before .before .before .before .before .before .before .before .before .before .before .before .before .before .before .before .args .a) (c .before .before .before .before .before .before .before .before .before .before .before .before .before .before .before .before .before .before .before .args .p) (journaled (c .before .before .before .before .before .before .before .before .before .before .before .before .before .before .before .before .before .before .before .args .m .now) (c .before .before .before .before .before .before .before .before .before .before .before .before .before .before .before .before .before .before .before .args .journal .now)) (omega (arith, c .before .before .before .before .before .before .before .before .before .before .before .before .before .before .before .before .before .form-bits .ensures, c .before .before .before .before .before .before .before .before .before .before .before .before .before .before .before .before .if1 .left)) _ _ (c .before .before .before .before .before .before .before .before .before .before .before .before .before .fetch-two .ensures q) (c .before .before .before .before .before .before .before .before .before .before .if2 .left) _ (c .before .before .before .before .before .before .before .before .before .low32 .ensures) (omega (arith, c .before .before .before .before .before .before .before .before .before .before .before .before .before .before .before .before .before .form-bits .ensures, c .before .before .before .before .before .before .before .before .if3 .left)) _ _ _ (c .before .before .before .before .before .plus .ensures) (c .before .before .before .before .fetch-two2 .ensures q) (c .before .if4 .left) _ (c .low322 .ensures)
 
 pub fetch-operands-spec : {M : Type 1} → statement M
 fetch-operands-spec =
     tie.close
     (tie.spec
+    form-bits-requires
     returns
     fetch-two-requires
     same-length

@@ -26,17 +26,23 @@ same-length-2 c = search needs
 returns-2 : tie.Need-returns-2
 returns-2 c = λ q. two-second (cpu (c .before .before .before .before .before .before .before .before .before .before .before .before .before .before .args .r .now) q) (c .before .before .before .before .before .before .before .before .before .before .before .before .before .before .args .a) _ (journaled (c .before .before .before .before .before .before .before .before .before .before .before .before .before .before .args .m .now) (c .before .before .before .before .before .before .before .before .before .before .before .before .before .before .args .journal .now)) _ (c .before .before .before .before .before .before .before .before .before .before .fetch-parcel .ensures) (c .before .before .before .before .before .before .before .if1 .left) _ _ _ (c .before .before .before .before .plus .ensures) (c .before .before .before .fetch-parcel2 .ensures) (c .if2 .taken)
 
-mul-result : tie.Need-mul-result
-mul-result c = search needs
+parcel-requires : tie.Need-parcel-requires
+parcel-requires c κs = search needs
 
-add-result : tie.Need-add-result
-add-result c = search needs
+parcel-requires-2 : tie.Need-parcel-requires-2
+parcel-requires-2 c κs = search needs
+
+joined-requires : tie.Need-joined-requires
+joined-requires c κs = search needs
+
+cast-result : tie.Need-cast-result
+cast-result c = search needs
 
 same-length-3 : tie.Need-same-length-3
 same-length-3 c = search needs
 
 returns-3 : tie.Need-returns-3
-returns-3 c = λ q. two-both (cpu (c .before .before .before .before .before .before .before .before .before .before .before .before .before .before .args .r .now) q) (c .before .before .before .before .before .before .before .before .before .before .before .before .before .before .args .a) _ (journaled (c .before .before .before .before .before .before .before .before .before .before .before .before .before .before .args .m .now) (c .before .before .before .before .before .before .before .before .before .before .before .before .before .before .args .journal .now)) _ (c .before .before .before .before .before .before .before .before .before .before .fetch-parcel .ensures) (c .before .before .before .before .before .before .before .if1 .left) _ _ _ (c .before .before .before .before .plus .ensures) (c .before .before .before .fetch-parcel2 .ensures) (c .if2 .left)
+returns-3 c = λ q. two-both (cpu (c .before .before .before .before .before .before .before .before .before .before .before .before .before .before .before .before .before .args .r .now) q) (c .before .before .before .before .before .before .before .before .before .before .before .before .before .before .before .before .before .args .a) _ (journaled (c .before .before .before .before .before .before .before .before .before .before .before .before .before .before .before .before .before .args .m .now) (c .before .before .before .before .before .before .before .before .before .before .before .before .before .before .before .before .before .args .journal .now)) _ (c .before .before .before .before .before .before .before .before .before .before .before .before .before .fetch-parcel .ensures) (c .before .before .before .before .before .before .before .before .before .before .if1 .left) _ _ _ (c .before .before .before .before .before .before .before .plus .ensures) (c .before .before .before .before .before .before .fetch-parcel2 .ensures) (c .before .before .before .if2 .left) _ _ _ (c .before .before .parcel .ensures) (c .before .parcel2 .ensures) (c .joined .ensures)
 
 pub fetch-two-spec : {M : Type 1} → statement M
 fetch-two-spec =
@@ -49,7 +55,9 @@ fetch-two-spec =
     fetch-parcel-requires-2
     same-length-2
     returns-2
-    mul-result
-    add-result
+    parcel-requires
+    parcel-requires-2
+    joined-requires
+    cast-result
     same-length-3
     returns-3)

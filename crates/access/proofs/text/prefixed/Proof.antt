@@ -3,6 +3,9 @@ use borrow.Author.Needs.{needs}
 use Rattle.access.proofs.text.prefixed.Statement.{statement}
 use Rattle.access.proofs.text.prefixed.Tie as tie
 
+form-bits-requires : tie.Need-form-bits-requires
+form-bits-requires c κs = search needs
+
 returns : tie.Need-returns
 returns c = search (needs, prefixed-one)
 
@@ -34,6 +37,7 @@ pub prefixed-spec : {M : Type 1} → statement M
 prefixed-spec =
     tie.close
     (tie.spec
+    form-bits-requires
     returns
     high-half-requires
     low-half-requires

@@ -9,8 +9,8 @@ enum-told c = search needs
 bit-requires : tie.Need-bit-requires
 bit-requires c κs = search needs
 
-mul-plus : tie.Need-mul-plus
-mul-plus c = search needs
+clear-low-requires : tie.Need-clear-low-requires
+clear-low-requires c κs = search needs
 
 plus-requires : tie.Need-plus-requires
 plus-requires c κs = search needs
@@ -33,7 +33,7 @@ absolute-spec =
     (tie.spec
     enum-told
     bit-requires
-    mul-plus
+    clear-low-requires
     plus-requires
     enum-told-2
     returns

@@ -1,13 +1,15 @@
 use Rattle.alu.proofs.ResultLaws.{both-laid}
+use Prim.Native.Nat.{_/_}
+use lib.Bits.{mask-lt}
 use borrow.Author.Needs.{needs}
 use Rattle.alu.proofs.results.laid_over.Statement.{statement}
 use Rattle.alu.proofs.results.laid_over.Tie as tie
 
 cast-with-code : tie.Need-cast-with-code
-cast-with-code c = search needs
+cast-with-code c = search (needs, mask-lt (c .args .w / 0x1_0000_0000 / 4) 2)
 
 cast-with-code-2 : tie.Need-cast-with-code-2
-cast-with-code-2 c = search needs
+cast-with-code-2 c = search (needs, mask-lt (c .args .w / 0x1_0000_0000) 2)
 
 with-code-requires : tie.Need-with-code-requires
 with-code-requires c κs = search needs

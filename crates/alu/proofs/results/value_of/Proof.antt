@@ -1,10 +1,11 @@
 use Rattle.alu.proofs.ResultLaws.{value-unpacked}
+use lib.Bits.{mask-lt}
 use borrow.Author.Needs.{needs}
 use Rattle.alu.proofs.results.value_of.Statement.{statement}
 use Rattle.alu.proofs.results.value_of.Tie as tie
 
 cast-result : tie.Need-cast-result
-cast-result c = search needs
+cast-result c = search (needs, mask-lt (c .args .w) 32)
 
 returns : tie.Need-returns
 returns c = search (needs, value-unpacked)

@@ -6,8 +6,8 @@ use Rattle.bank.proofs.flow.released.Tie as tie
 stack-address-requires : tie.Need-stack-address-requires
 stack-address-requires c κs = search needs
 
-mul-a : tie.Need-mul-a
-mul-a c = search needs
+clear-low-requires : tie.Need-clear-low-requires
+clear-low-requires c κs = search needs
 
 sp-current-requires : tie.Need-sp-current-requires
 sp-current-requires c κs = search needs
@@ -38,7 +38,7 @@ released-spec =
     tie.close
     (tie.spec
     stack-address-requires
-    mul-a
+    clear-low-requires
     sp-current-requires
     cache-on-requires
     element-copy-out-if1

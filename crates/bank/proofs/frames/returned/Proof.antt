@@ -9,8 +9,8 @@ element-copy-out-plus c = search needs
 plus-requires : tie.Need-plus-requires
 plus-requires c κs = search needs
 
-mul-b : tie.Need-mul-b
-mul-b c = search needs
+clear-low-requires : tie.Need-clear-low-requires
+clear-low-requires c κs = search needs
 
 element-write-b : tie.Need-element-write-b
 element-write-b c = search needs
@@ -51,7 +51,7 @@ returned-spec =
     (tie.spec
     element-copy-out-plus
     plus-requires
-    mul-b
+    clear-low-requires
     element-write-b
     kept-requires
     element-write-b-2

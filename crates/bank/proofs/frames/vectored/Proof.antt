@@ -9,8 +9,8 @@ element-copy-out-masked c = search needs
 masked-requires : tie.Need-masked-requires
 masked-requires c κs = search needs
 
-mul-b : tie.Need-mul-b
-mul-b c = search needs
+clear-low-requires : tie.Need-clear-low-requires
+clear-low-requires c κs = search needs
 
 element-write-b : tie.Need-element-write-b
 element-write-b c = search needs
@@ -27,7 +27,7 @@ vectored-spec =
     (tie.spec
     element-copy-out-masked
     masked-requires
-    mul-b
+    clear-low-requires
     element-write-b
     element-write-b-2
     returns)

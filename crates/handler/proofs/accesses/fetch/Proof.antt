@@ -6,8 +6,8 @@ use Rattle.handler.proofs.accesses.fetch.Tie as tie
 fetch-walked-requires : tie.Need-fetch-walked-requires
 fetch-walked-requires c κs = search needs
 
-mul-load-half : tie.Need-mul-load-half
-mul-load-half c = search needs
+clear-low-requires : tie.Need-clear-low-requires
+clear-low-requires c κs = search needs
 
 load-half-requires : tie.Need-load-half-requires
 load-half-requires c κs = search needs
@@ -29,7 +29,7 @@ fetch-spec =
     tie.close
     (tie.spec
     fetch-walked-requires
-    mul-load-half
+    clear-low-requires
     load-half-requires
     same-length
     returns

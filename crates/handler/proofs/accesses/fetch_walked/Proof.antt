@@ -1,10 +1,10 @@
-use Rattle.handler.proofs.AccessLaws.{fetch-fault, fetch-direct, fetch-paged}
+use Rattle.handler.proofs.AccessLaws.{text-fault, text-direct, text-paged}
 use borrow.Author.Needs.{needs}
 use Rattle.handler.proofs.accesses.fetch_walked.Statement.{statement}
 use Rattle.handler.proofs.accesses.fetch_walked.Tie as tie
 
-mul-translate : tie.Need-mul-translate
-mul-translate c = search needs
+clear-low-requires : tie.Need-clear-low-requires
+clear-low-requires c κs = search needs
 
 translate-requires : tie.Need-translate-requires
 translate-requires c κs = search needs
@@ -34,25 +34,25 @@ same-length : tie.Need-same-length
 same-length c = search needs
 
 returns : tie.Need-returns
-returns c = search (needs, fetch-fault)
+returns c = search (needs, text-fault)
 
 same-length-2 : tie.Need-same-length-2
 same-length-2 c = search needs
 
 returns-2 : tie.Need-returns-2
-returns-2 c = search (needs, fetch-direct)
+returns-2 c = search (needs, text-direct)
 
 same-length-3 : tie.Need-same-length-3
 same-length-3 c = search needs
 
 returns-3 : tie.Need-returns-3
-returns-3 c = search (needs, fetch-paged)
+returns-3 c = search (needs, text-paged)
 
 pub fetch-walked-spec : {M : Type 1} → statement M
 fetch-walked-spec =
     tie.close
     (tie.spec
-    mul-translate
+    clear-low-requires
     translate-requires
     enum-known-x
     raised-requires

@@ -12,8 +12,8 @@ cast-if1 c = search needs
 add-if1 : tie.Need-add-if1
 add-if1 c = search needs
 
-mul-note : tie.Need-mul-note
-mul-note c = search needs
+clear-low-requires : tie.Need-clear-low-requires
+clear-low-requires c κs = search needs
 
 note-requires : tie.Need-note-requires
 note-requires c κs = search needs
@@ -40,7 +40,7 @@ store-noted-spec =
     bytes-requires
     cast-if1
     add-if1
-    mul-note
+    clear-low-requires
     note-requires
     store-requires
     raised-requires

@@ -12,11 +12,17 @@ set-bit-requires c κs = search needs
 set-bit-requires-2 : tie.Need-set-bit-requires-2
 set-bit-requires-2 c κs = search needs
 
+field-requires : tie.Need-field-requires
+field-requires c κs = search needs
+
 cast-result : tie.Need-cast-result
 cast-result c = search needs
 
 set-bit-requires-3 : tie.Need-set-bit-requires-3
 set-bit-requires-3 c κs = search needs
+
+field-requires-2 : tie.Need-field-requires-2
+field-requires-2 c κs = search needs
 
 cast-result-2 : tie.Need-cast-result-2
 cast-result-2 c = search needs
@@ -34,8 +40,10 @@ mark-spec =
     is-write-requires
     set-bit-requires
     set-bit-requires-2
+    field-requires
     cast-result
     set-bit-requires-3
+    field-requires-2
     cast-result-2
     returns
     returns-2)

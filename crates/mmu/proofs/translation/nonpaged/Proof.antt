@@ -15,14 +15,11 @@ permits-requires c κs = search needs
 field-requires-3 : tie.Need-field-requires-3
 field-requires-3 c κs = search needs
 
-mul-t12 : tie.Need-mul-t12
-mul-t12 c = search needs
-
 field-requires-4 : tie.Need-field-requires-4
 field-requires-4 c κs = search needs
 
-add-t14 : tie.Need-add-t14
-add-t14 c = search needs
+placed-requires : tie.Need-placed-requires
+placed-requires c κs = search needs
 
 fault-of-requires : tie.Need-fault-of-requires
 fault-of-requires c κs = search needs
@@ -41,9 +38,8 @@ nonpaged-spec =
     field-requires-2
     permits-requires
     field-requires-3
-    mul-t12
     field-requires-4
-    add-t14
+    placed-requires
     fault-of-requires
     returns
     returns-2)

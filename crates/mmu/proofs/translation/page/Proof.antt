@@ -12,14 +12,11 @@ permits-requires c κs = search needs
 field-requires : tie.Need-field-requires
 field-requires c κs = search needs
 
-mul-t11 : tie.Need-mul-t11
-mul-t11 c = search needs
-
 field-requires-2 : tie.Need-field-requires-2
 field-requires-2 c κs = search needs
 
-add-t13 : tie.Need-add-t13
-add-t13 c = search needs
+placed-requires : tie.Need-placed-requires
+placed-requires c κs = search needs
 
 fault-of-requires : tie.Need-fault-of-requires
 fault-of-requires c κs = search needs
@@ -37,9 +34,8 @@ page-spec =
     bit-requires
     permits-requires
     field-requires
-    mul-t11
     field-requires-2
-    add-t13
+    placed-requires
     fault-of-requires
     returns
     returns-2)

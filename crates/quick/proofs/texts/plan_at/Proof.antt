@@ -1,4 +1,5 @@
 use Rattle.quick.proofs.TextLaws.{short-planned, wide-planned}
+use native.Mathlib.Omega.{arith}
 use borrow.Author.Needs.{needs}
 use Rattle.quick.proofs.texts.plan_at.Statement.{statement}
 use Rattle.quick.proofs.texts.plan_at.Tie as tie
@@ -7,7 +8,7 @@ plan-short-requires : tie.Need-plan-short-requires
 plan-short-requires c κs = search needs
 
 returns : tie.Need-returns
-returns c = short-planned (c .before .before .before .args .m .now) (c .before .before .before .args .i) (c .before .before .before .args .p) (c .before .before .before .pre .1) (c .before .before .before .pre .2) (c .plan-short .result) (c .before .if1 .taken) (c .plan-short .ensures)
+returns c = short-planned (c .before .before .before .args .m .now) (c .before .before .before .args .i) (c .before .before .before .args .p) (c .before .before .before .pre .1) (c .before .before .before .pre .2) (c .plan-short .result) (omega (arith, c .before .if1 .taken)) (c .plan-short .ensures)
 
 add-parcel : tie.Need-add-parcel
 add-parcel c = search needs
@@ -37,7 +38,7 @@ plan-wide-requires : tie.Need-plan-wide-requires
 plan-wide-requires c κs = search needs
 
 returns-2 : tie.Need-returns-2
-returns-2 c = wide-planned (c .before .before .before .before .before .before .before .args .m .now) (c .before .before .before .before .before .before .before .args .i) (c .before .before .before .before .before .before .before .args .p) (c .before .before .before .before .before .before .before .pre .1) (c .before .before .before .before .before .before .before .pre .2) (c .plan-wide .result) (c .before .before .before .before .before .if1 .left) _ _ _ _ (c .before .before .before .before .parcel .ensures) (c .before .before .before .parcel2 .ensures) (c .before .before .parcel3 .ensures) (c .before .parcel4 .ensures) (c .plan-wide .ensures)
+returns-2 c = wide-planned (c .before .before .before .before .before .before .before .args .m .now) (c .before .before .before .before .before .before .before .args .i) (c .before .before .before .before .before .before .before .args .p) (c .before .before .before .before .before .before .before .pre .1) (c .before .before .before .before .before .before .before .pre .2) (c .plan-wide .result) (omega (arith, c .before .before .before .before .before .if1 .left)) _ _ _ _ (c .before .before .before .before .parcel .ensures) (c .before .before .before .parcel2 .ensures) (c .before .before .parcel3 .ensures) (c .before .parcel4 .ensures) (c .plan-wide .ensures)
 
 pub plan-at-spec : {M : Type 1} → statement M
 plan-at-spec =
