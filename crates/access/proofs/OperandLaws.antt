@@ -21,7 +21,7 @@ use Rattle.machine.specs.Status.{Cpu, reg, regime}
 use Rattle.access.specs.declared.text.Operands.{Operands}
 use Rattle.access.specs.Parts.{Out, ok, stop, onward, _>>=_, done}
 use Rattle.access.specs.Text.{fetchParcels, following, fetchAfter, fetchPrefixed, fetchText}
-use Rattle.access.specs.Code.{fetchTwo, joinedOut, listed, operandsOut, textOut}
+use Rattle.access.specs.Code.{fetchTwo, joinedOut, listed, wordsFetched, fetchStopped, operandsOut, textOut}
 use Rattle.access.proofs.Bind.{bind, parcel-fetched}
 use Rattle.access.proofs.TextLaws.{halves, pairs}
 
@@ -43,20 +43,24 @@ zero-more c a f t = refl
 large : (x : ℕ) → 2 ^ 32 ≤ x → eqb x 0 ≡ false
 large x h = ne-eqb x 0 (λ z. absurd (omega arith))
 
+pub operands-as : (c : Cpu) (p : ℕ) (u : Journaled) (o k : Operands) (g : Gave Journaled (Out (List ℕ))) → o ≡ k → gave (operandsOut c p k) u ≡ g
+    → gave (operandsOut c p o) u ≡ g
+operands-as c p u o k g e h = rw e h
+
 module _ (c : Cpu) (a p : ℕ) (t : Journaled) where
-  pub operands-none : p < 0x8000 → gave (operandsOut c p (record { fault = 0; source = 0; destination = 0 })) t ≡ interpret logging (fetchParcels c a (following p)) t
+  pub operands-none : p < 0x8000 → gave (operandsOut c p (wordsFetched 0 0)) t ≡ interpret logging (fetchParcels c a (following p)) t
   unfolding fetchParcels interpret
   operands-none h = rw (lt-ltb p 0x8000 h) refl
 
   module _ (h : 0x8000 ≤ p) (x : ℕ) (u : Journaled) (e : gave (joinedOut c (answerOf x)) u ≡ interpret logging (fetchTwo c a) t) where
-    pub operands-first : 2 ^ 32 ≤ x → gave (operandsOut c p (record { fault = x; source = 0; destination = 0 })) u ≡ interpret logging (fetchParcels c a (following p)) t
+    pub operands-first : 2 ^ 32 ≤ x → gave (operandsOut c p (fetchStopped x)) u ≡ interpret logging (fetchParcels c a (following p)) t
     operands-first k =
         by-test (ltb p 0xC000)
         (λ s. rw (large x k, le-ltb p 0x8000 h, s) (sym (word-bad c a x 0 t u e k)))
         (λ s. rw (large x k, le-ltb p 0x8000 h, s) (sym (word-bad c a x 2 t u e k)))
 
     module _ (k : x < 2 ^ 32) (v : ℕ) (ev : v ≡ x % 2 ^ 32) where
-      pub operands-three : p < 0xC000 → gave (operandsOut c p (record { fault = 0; source = v; destination = 0 })) u ≡ interpret logging (fetchParcels c a (following p)) t
+      pub operands-three : p < 0xC000 → gave (operandsOut c p (wordsFetched v 0)) u ≡ interpret logging (fetchParcels c a (following p)) t
       unfolding fetchParcels interpret _>>=_ after onward
       operands-three s = rw (le-ltb p 0x8000 h, lt-ltb p 0xC000 s, ev) (sym (word-good c a x 0 t u e k))
 
@@ -64,12 +68,12 @@ module _ (c : Cpu) (a p : ℕ) (t : Journaled) where
         rest : interpret logging (fetchParcels c a (following p)) t ≡ interpret logging (fetchParcels c d 2 >>= (λ ps. done (halves (x % 2 ^ 32) ps))) u
         rest = rw (le-ltb p 0x8000 h, le-ltb p 0xC000 s, ed) (word-good c a x 2 t u e k)
 
-        pub operands-second : 2 ^ 32 ≤ y → gave (operandsOut c p (record { fault = y; source = 0; destination = 0 })) w ≡ interpret logging (fetchParcels c a (following p)) t
+        pub operands-second : 2 ^ 32 ≤ y → gave (operandsOut c p (fetchStopped y)) w ≡ interpret logging (fetchParcels c a (following p)) t
         unfolding onward interpret
         operands-second z = rw (large y z) (sym (rest ∙ rw (bind (fetchParcels c d 2) (λ ps. done (halves (x % 2 ^ 32) ps)) u, word-bad c d y 0 u w f z) refl))
 
         pub operands-five : y < 2 ^ 32 → (z : ℕ) → z ≡ y % 2 ^ 32
-            → gave (operandsOut c p (record { fault = 0; source = v; destination = z })) w ≡ interpret logging (fetchParcels c a (following p)) t
+            → gave (operandsOut c p (wordsFetched v z)) w ≡ interpret logging (fetchParcels c a (following p)) t
         unfolding onward interpret
         operands-five l z ez =
             rw (le-ltb p 0x8000 h, le-ltb p 0xC000 s, ev, ez)

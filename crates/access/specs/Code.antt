@@ -52,6 +52,12 @@ listed p x y =
     cond (ltb p 0x8000) []
     (cond (ltb p 0xC000) (x / 65536 ∷ x % 65536 ∷ []) (x / 65536 ∷ x % 65536 ∷ y / 65536 ∷ y % 65536 ∷ []))
 
+abbrev pub wordsFetched : ℕ → ℕ → Operands
+wordsFetched x y = record { fault = 0; source = x; destination = y }
+
+abbrev pub fetchStopped : ℕ → Operands
+fetchStopped e = record { fault = e; source = 0; destination = 0 }
+
 abbrev pub operandsOut : Cpu → ℕ → Operands → Out (List ℕ)
 operandsOut c p o = cond (eqb (o .fault) 0) (ok (listed p (o .source) (o .destination))) (stop (o .fault % 2 ^ 32) c)
 

@@ -5,6 +5,7 @@ use bits::high_half;
 use bits::joined;
 use bits::low_half;
 use isa::Text;
+use memory::answers::low32;
 use word::sums::plus;
 ghost use mathlib.Core.Path.{_≡_};
 ghost use Prim.Native.Nat.{_+_, _*_, _%_};
@@ -12,7 +13,7 @@ ghost use Rattle.memory.specs.Answers.{answerOf};
 ghost use Rattle.isa.specs.Decode.{textOf, cpuPrefix};
 ghost use mathlib.Core.List.{[], _∷_};
 ghost use Rattle.access.specs.Text.{following, fetchParcels, fetchAfter, fetchPrefixed, fetchText};
-ghost use Rattle.access.specs.Code.{joinedOut, fetchTwo, listed, operandsOut, textOut};
+ghost use Rattle.access.specs.Code.{joinedOut, fetchTwo, listed, wordsFetched, fetchStopped, operandsOut, textOut};
 ghost use Rattle.access.specs.Contracts.{Fetches};
 
 // The two words after a first parcel, as far as it calls for them, and the exception that stopped the fetch with 2^32
@@ -44,48 +45,48 @@ fn fetch_two(m: &mut [u8], journal: &mut [u64; 201], r: &[u32; 17], a: u32) -> u
     joined(parcel(x), parcel(y)) as u64
 }
 
+// The two words of a fetch that ended.
+fn words_fetched(source: u32, destination: u32) -> Operands
+    ensures { λ x. ⌜ x ≡ wordsFetched source destination ⌝ }
+{
+    Operands {
+        fault: 0,
+        source,
+        destination,
+    }
+}
+
+// A fetch that was stopped.
+fn fetch_stopped(fault: u64) -> Operands
+    ensures { λ x. ⌜ x ≡ fetchStopped fault ⌝ }
+{
+    Operands {
+        fault,
+        source: 0,
+        destination: 0,
+    }
+}
+
 // The parcels after p, which stand from a on.
 fn fetch_operands(m: &mut [u8], journal: &mut [u64; 201], r: &[u32; 17], a: u32, p: u16) -> Operands
     ensures { λ x. ⌜ Fetches (λ c. operandsOut c p x) m journal r (λ c. fetchParcels c a (following p)) ⌝ }
 {
     let form = form_bits(p);
     if form < 2 {
-        return Operands {
-            fault: 0,
-            source: 0,
-            destination: 0,
-        };
+        return words_fetched(0, 0);
     }
     let x = fetch_two(m, journal, r, a);
     if 0x1_0000_0000 <= x {
-        return Operands {
-            fault: x,
-            source: 0,
-            destination: 0,
-        };
+        return fetch_stopped(x);
     }
-    let source = memory::answers::low32(x);
     if form < 3 {
-        return Operands {
-            fault: 0,
-            source,
-            destination: 0,
-        };
+        return words_fetched(low32(x), 0);
     }
     let y = fetch_two(m, journal, r, plus(a, 4));
     if 0x1_0000_0000 <= y {
-        return Operands {
-            fault: y,
-            source: 0,
-            destination: 0,
-        };
+        return fetch_stopped(y);
     }
-    let destination = memory::answers::low32(y);
-    Operands {
-        fault: 0,
-        source,
-        destination,
-    }
+    words_fetched(low32(x), low32(y))
 }
 
 // A parcel of an answer.

@@ -2,10 +2,10 @@
 -- Assumes nothing.
 use Prim.Native.Nat.{ℕ, _*_, _%_, _<_, _≤_, _^_}
 use mathlib.Core.Path.{_≡_, refl, sym, ap, _∙_}
-use mathlib.Core.Bool.{Bool, true, false, cond, true≢false}
+use mathlib.Core.Bool.{Bool, true, false, cond, not, true≢false}
 use mathlib.Core.List.{List, [], _∷_}
 use lib.Dec.{eqb}
-use borrow.Author.Tests.{ne-eqb, eq-eqb}
+use borrow.Author.Tests.{not-true, not-false}
 use Rattle.word.specs.declared.Width.the-variants.{Word}
 use Rattle.word.specs.Sums.{plusOf}
 use Rattle.isa.specs.declared.Mode.{Mode}
@@ -27,7 +27,7 @@ use Rattle.exec.specs.Operands.{Place, kindOf}
 use Rattle.exec.specs.Dyadic.{copies, readWords, readMany, writeWords, writeMany}
 use Rattle.operands.specs.Code.{isConstant, placeAt}
 use Rattle.operands.specs.Code.{resumed}
-use Rattle.dqm.specs.Words.{followed, loading, storing, wordsOf, countOf, isScalar, scalarOf, copyWords}
+use Rattle.dqm.specs.Words.{followed, loading, storing, wordsOf, countOf, alignedTo, isScalar, scalarOf, copyWords}
 use Rattle.operands.proofs.RestLaws.{finished}
 use Rattle.dqm.proofs.WordLaws.{two-words, four-words, followed-part, followed-done, followed-stop, followed-ends, followed-goes}
 
@@ -36,6 +36,9 @@ scalar-general o m v k h e = rw h e
 
 pub scalar-register : (b : Bank) (o : Operand) (n k x : ℕ) → o ≡ Register n → k ≡ registerOf n → x ≡ word b k → x ≡ scalarOf b o
 scalar-register b o n k x h e f = rw h (f ∙ ap (λ (y : ℕ). word b y) e)
+
+pub aligned-by : (k j : Bool) (a : ℕ) → k ≡ j → eqb (a % (countOf j * 4)) 0 ≡ alignedTo k a
+aligned-by k j a e = rw e refl
 
 stored-words : (c : Cpu) (a x y : ℕ) (t : Journaled) → interpret logging (storing c a x y (λ d. done d)) t ≡ interpret logging (writeWords c a (x ∷ y ∷ [])) t
 unfolding writeWords
@@ -122,38 +125,38 @@ module _ (b : Bank) (q : Cache) (o : Operand) (a : ℕ) (i : Bool) (ei : i ≡ i
       same true = refl
       same false = refl
 
-  pub many-odd : i ≡ false → (j : Bool) → k ≡ j → ((a % (countOf j * 4)) ≡ 0 → ⊥) → (g : ℕ → Program (Out Cpu)) (z : ℕ) → answerOf z ≡ bad 4
+  pub many-odd : i ≡ false → (l : Bool) → l ≡ alignedTo k a → not l ≡ true → (g : ℕ → Program (Out Cpu)) (z : ℕ) → answerOf z ≡ bad 4
       → interpret logging (resumed g (answerOf z) b q) t ≡ interpret logging (readMany (cpu b q) (countOf k) (placeAt o a) >>= f) t
   unfolding _>>=_ after onward interpret
-  many-odd h j ej n g z ez =
-      rw (ez, ej)
-      (sym (ap read-then (memory-read (cpu b q) (countOf j) a o (sym ei ∙ h)
-      ∙ ap (λ (y : Bool). cond y (readWords (cpu b q) a (countOf j)) (ret (stop alignmentFault (cpu b q)))) (ne-eqb (a % (countOf j * 4)) 0 n))))
+  many-odd h l el n g z ez =
+      rw ez
+      (sym (ap read-then (memory-read (cpu b q) (countOf k) a o (sym ei ∙ h)
+      ∙ ap (λ (y : Bool). cond y (readWords (cpu b q) a (countOf k)) (ret (stop alignmentFault (cpu b q)))) (sym el ∙ not-true l n))))
 
-  aligned : (j : Bool) → i ≡ false → a % (countOf j * 4) ≡ 0 → readMany (cpu b q) (countOf j) (placeAt o a) ≡ readWords (cpu b q) a (countOf j)
+  aligned : (j : Bool) → i ≡ false → alignedTo j a ≡ true → readMany (cpu b q) (countOf j) (placeAt o a) ≡ readWords (cpu b q) a (countOf j)
   aligned j h n =
       memory-read (cpu b q) (countOf j) a o (sym ei ∙ h)
-      ∙ ap (λ (y : Bool). cond y (readWords (cpu b q) a (countOf j)) (ret (stop alignmentFault (cpu b q)))) (eq-eqb (a % (countOf j * 4)) 0 n)
+      ∙ ap (λ (y : Bool). cond y (readWords (cpu b q) a (countOf j)) (ret (stop alignmentFault (cpu b q)))) n
 
   module _ (s : Bank) (x w0 w1 w2 : ℕ) (u : Journaled) where
-    pub many-double : i ≡ false → k ≡ true → a % 8 ≡ 0
+    pub many-double : i ≡ false → (l : Bool) → l ≡ alignedTo k a → not l ≡ false → k ≡ true
         → ((g : ℕ → ℕ → Program (Out Cpu)) → interpret logging (resumed (λ y. g w0 y) (answerOf x) s q) u ≡ interpret logging (loading (cpu b q) a g) t)
         → interpret logging (resumed (λ y. f (wordsOf k w0 w1 w2 y)) (answerOf x) s q) u ≡ interpret logging (readMany (cpu b q) (countOf k) (placeAt o a) >>= f) t
-    many-double h e n g = go k e
+    many-double h l el n e g = go k e (sym el ∙ not-false l n)
       where
-        go : (j : Bool) → j ≡ true → interpret logging (resumed (λ y. f (wordsOf j w0 w1 w2 y)) (answerOf x) s q) u ≡ interpret logging (readMany (cpu b q) (countOf j) (placeAt o a) >>= f) t
-        go true d = g (λ x y. f (x ∷ y ∷ [])) ∙ sym (two-words (cpu b q) a f t) ∙ sym (ap read-then (aligned true h n))
-        go false d = absurd (true≢false (sym d))
+        go : (j : Bool) → j ≡ true → alignedTo j a ≡ true → interpret logging (resumed (λ y. f (wordsOf j w0 w1 w2 y)) (answerOf x) s q) u ≡ interpret logging (readMany (cpu b q) (countOf j) (placeAt o a) >>= f) t
+        go true d w = g (λ x y. f (x ∷ y ∷ [])) ∙ sym (two-words (cpu b q) a f t) ∙ sym (ap read-then (aligned true h w))
+        go false d w = absurd (true≢false (sym d))
 
-    pub many-quad : i ≡ false → k ≡ false → a % 16 ≡ 0
+    pub many-quad : i ≡ false → (l : Bool) → l ≡ alignedTo k a → not l ≡ false → k ≡ false
         → ((g : ℕ → ℕ → ℕ → ℕ → Program (Out Cpu)) → interpret logging (resumed (λ y. g w0 w1 w2 y) (answerOf x) s q) u
         ≡ interpret logging (loading (cpu b q) a (λ x y. loading (cpu b q) (plusOf (plusOf a 4) 4) (λ m n. g x y m n))) t)
         → interpret logging (resumed (λ y. f (wordsOf k w0 w1 w2 y)) (answerOf x) s q) u ≡ interpret logging (readMany (cpu b q) (countOf k) (placeAt o a) >>= f) t
-    many-quad h e n g = go k e
+    many-quad h l el n e g = go k e (sym el ∙ not-false l n)
       where
-        go : (j : Bool) → j ≡ false → interpret logging (resumed (λ y. f (wordsOf j w0 w1 w2 y)) (answerOf x) s q) u ≡ interpret logging (readMany (cpu b q) (countOf j) (placeAt o a) >>= f) t
-        go false d = g (λ x y m n. f (x ∷ y ∷ m ∷ n ∷ [])) ∙ sym (four-words (cpu b q) a f t) ∙ sym (ap read-then (aligned false h n))
-        go true d = absurd (true≢false d)
+        go : (j : Bool) → j ≡ false → alignedTo j a ≡ true → interpret logging (resumed (λ y. f (wordsOf j w0 w1 w2 y)) (answerOf x) s q) u ≡ interpret logging (readMany (cpu b q) (countOf j) (placeAt o a) >>= f) t
+        go false d w = g (λ x y m n. f (x ∷ y ∷ m ∷ n ∷ [])) ∙ sym (four-words (cpu b q) a f t) ∙ sym (ap read-then (aligned false h w))
+        go true d w = absurd (true≢false d)
 
 -- ---- words written
 
@@ -166,38 +169,38 @@ module _ (b : Bank) (q : Cache) (o : Operand) (a : ℕ) (i : Bool) (ei : i ≡ i
       finished b q z t (cpu b q) ez refl
       ∙ sym (ap (λ (p : Program (Out Cpu)). interpret logging p t) (scalar-written (cpu b q) (countOf k) a (wordsOf k w0 w1 w2 y) o (sym ei ∙ h)))
 
-  pub put-odd : i ≡ false → (j : Bool) → k ≡ j → ((a % (countOf j * 4)) ≡ 0 → ⊥) → (z : ℕ) → answerOf z ≡ bad 4 → gave (ended (answerOf z) b q) t ≡ interpret logging (writing k) t
+  pub put-odd : i ≡ false → (l : Bool) → l ≡ alignedTo k a → not l ≡ true → (z : ℕ) → answerOf z ≡ bad 4 → gave (ended (answerOf z) b q) t ≡ interpret logging (writing k) t
   unfolding interpret
-  put-odd h j ej n z ez =
-      rw (ez, ej)
-      (sym (ap (λ (p : Program (Out Cpu)). interpret logging p t) (memory-written (cpu b q) (countOf j) a (wordsOf j w0 w1 w2 y) o (sym ei ∙ h)
-      ∙ ap (λ (v : Bool). cond v (writeWords (cpu b q) a (wordsOf j w0 w1 w2 y)) (ret (stop alignmentFault (cpu b q)))) (ne-eqb (a % (countOf j * 4)) 0 n))))
+  put-odd h l el n z ez =
+      rw ez
+      (sym (ap (λ (p : Program (Out Cpu)). interpret logging p t) (memory-written (cpu b q) (countOf k) a (wordsOf k w0 w1 w2 y) o (sym ei ∙ h)
+      ∙ ap (λ (v : Bool). cond v (writeWords (cpu b q) a (wordsOf k w0 w1 w2 y)) (ret (stop alignmentFault (cpu b q)))) (sym el ∙ not-true l n))))
 
-  put-aligned : (j : Bool) → i ≡ false → a % (countOf j * 4) ≡ 0 → writing j ≡ writeWords (cpu b q) a (wordsOf j w0 w1 w2 y)
+  put-aligned : (j : Bool) → i ≡ false → alignedTo j a ≡ true → writing j ≡ writeWords (cpu b q) a (wordsOf j w0 w1 w2 y)
   put-aligned j h n =
       memory-written (cpu b q) (countOf j) a (wordsOf j w0 w1 w2 y) o (sym ei ∙ h)
-      ∙ ap (λ (v : Bool). cond v (writeWords (cpu b q) a (wordsOf j w0 w1 w2 y)) (ret (stop alignmentFault (cpu b q)))) (eq-eqb (a % (countOf j * 4)) 0 n)
+      ∙ ap (λ (v : Bool). cond v (writeWords (cpu b q) a (wordsOf j w0 w1 w2 y)) (ret (stop alignmentFault (cpu b q)))) n
 
   module _ (s : Bank) (c : Cache) (z : ℕ) (u : Journaled) where
-    pub put-double : i ≡ false → k ≡ true → a % 8 ≡ 0
+    pub put-double : i ≡ false → (l : Bool) → l ≡ alignedTo k a → not l ≡ false → k ≡ true
         → ((f : Cpu → Program (Out Cpu)) → interpret logging (followed f (answerOf z) s c) u ≡ interpret logging (storing (cpu b q) a w0 y f) t)
         → gave (ended (answerOf z) s c) u ≡ interpret logging (writing k) t
-    put-double h e n g = go k e
+    put-double h l el n e g = go k e (sym el ∙ not-false l n)
       where
-        go : (j : Bool) → j ≡ true → gave (ended (answerOf z) s c) u ≡ interpret logging (writing j) t
-        go true d =
+        go : (j : Bool) → j ≡ true → alignedTo j a ≡ true → gave (ended (answerOf z) s c) u ≡ interpret logging (writing j) t
+        go true d w =
             followed-done s c u (answerOf z) ∙ g (λ d. done d) ∙ stored-words (cpu b q) a w0 y t
-            ∙ sym (ap (λ (p : Program (Out Cpu)). interpret logging p t) (put-aligned true h n))
-        go false d = absurd (true≢false (sym d))
+            ∙ sym (ap (λ (p : Program (Out Cpu)). interpret logging p t) (put-aligned true h w))
+        go false d w = absurd (true≢false (sym d))
 
-    pub put-quad : i ≡ false → k ≡ false → a % 16 ≡ 0
+    pub put-quad : i ≡ false → (l : Bool) → l ≡ alignedTo k a → not l ≡ false → k ≡ false
         → gave (ended (answerOf z) s c) u ≡ interpret logging (writeWords (cpu b q) a (w0 ∷ w1 ∷ w2 ∷ y ∷ [])) t
         → gave (ended (answerOf z) s c) u ≡ interpret logging (writing k) t
-    put-quad h e n g = go k e
+    put-quad h l el n e g = go k e (sym el ∙ not-false l n)
       where
-        go : (j : Bool) → j ≡ false → gave (ended (answerOf z) s c) u ≡ interpret logging (writing j) t
-        go false d = g ∙ sym (ap (λ (p : Program (Out Cpu)). interpret logging p t) (put-aligned false h n))
-        go true d = absurd (true≢false d)
+        go : (j : Bool) → j ≡ false → alignedTo j a ≡ true → gave (ended (answerOf z) s c) u ≡ interpret logging (writing j) t
+        go false d w = g ∙ sym (ap (λ (p : Program (Out Cpu)). interpret logging p t) (put-aligned false h w))
+        go true d w = absurd (true≢false d)
 
 -- ---- DQM, by whether the words are two
 

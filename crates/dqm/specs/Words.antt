@@ -1,8 +1,9 @@
 -- Double-words and quad-words as the code moves them: words in pairs.
 -- Assumes nothing.
-use Prim.Native.Nat.{ℕ}
+use Prim.Native.Nat.{ℕ, _*_, _%_}
 use mathlib.Core.Bool.{Bool, true, false, cond}
 use mathlib.Core.List.{List, [], _∷_}
+use lib.Dec.{eqb}
 use Rattle.word.specs.declared.Width.the-variants.{Word}
 use Rattle.word.specs.Sums.{plusOf}
 use Rattle.isa.specs.declared.Operand.{Operand}
@@ -48,6 +49,10 @@ wordsOf false w0 w1 w2 y = w0 ∷ w1 ∷ w2 ∷ y ∷ []
 
 abbrev pub countOf : Bool → ℕ
 countOf k = cond k 2 4
+
+-- whether an address is divisible by the bytes of so many words
+abbrev pub alignedTo : Bool → ℕ → Bool
+alignedTo k a = eqb (a % (countOf k * 4)) 0
 
 -- an operand that is not in memory, and its word
 abbrev pub isScalar : Operand → Bool

@@ -21,7 +21,7 @@ ghost use Rattle.access.specs.Parts.{Out};
 ghost use Rattle.access.specs.Contracts.{entryCpu, Ends};
 ghost use Rattle.exec.specs.Dyadic.{writeWords, writeMany};
 ghost use Rattle.operands.specs.Code.{placeAt, Resumes};
-ghost use Rattle.dqm.specs.Words.{followed, loading, storing, wordsOf, countOf, isScalar, scalarOf, manyThen, loadingFour};
+ghost use Rattle.dqm.specs.Words.{followed, loading, storing, wordsOf, countOf, alignedTo, isScalar, scalarOf, manyThen, loadingFour};
 
 // The last of two or four words or an exception, and the words before it.
 pub struct Words {
@@ -48,6 +48,13 @@ fn scalar(r: &[u32; 17], o: Operand) -> u32
         Operand::General(_, v) => v,
         Operand::Register(n) => word_at(r, register_of(n)),
     }
+}
+
+// Whether a is divisible by the bytes of two or four words.
+fn is_aligned(double: bool, a: u32) -> bool
+    ensures { λ z. ⌜ z ≡ alignedTo double a ⌝ }
+{
+    if double { a % 8 == 0 } else { a % 16 == 0 }
 }
 
 // Two words from a on.
@@ -125,37 +132,25 @@ pub fn read_many(
 {
     if is_scalar(o) {
         let v = scalar(r, o);
-        Words {
+        return Words {
             answer: good(v),
             w0: v,
             w1: v,
             w2: v,
-        }
-    } else {
-        if double {
-            if a % 8 == 0 {
-                load_pair(m, journal, q, r, a)
-            } else {
-                Words {
-                    answer: raised(4),
-                    w0: 0,
-                    w1: 0,
-                    w2: 0,
-                }
-            }
-        } else {
-            if a % 16 == 0 {
-                load_four(m, journal, q, r, a)
-            } else {
-                Words {
-                    answer: raised(4),
-                    w0: 0,
-                    w1: 0,
-                    w2: 0,
-                }
-            }
-        }
+        };
     }
+    if !is_aligned(double, a) {
+        return Words {
+            answer: raised(4),
+            w0: 0,
+            w1: 0,
+            w2: 0,
+        };
+    }
+    if double {
+        return load_pair(m, journal, q, r, a);
+    }
+    load_four(m, journal, q, r, a)
 }
 
 // Two words to a and on.
@@ -214,20 +209,13 @@ pub fn write_many(
     ensures { λ z. ⌜ Ends z m journal q r (λ c. writeMany c (countOf double) (placeAt o a) (wordsOf double (w .w0) (w .w1) (w .w2) y)) ⌝ }
 {
     if is_scalar(o) {
-        good(0)
-    } else {
-        if double {
-            if a % 8 == 0 {
-                store_pair(m, journal, q, r, a, w.w0, y)
-            } else {
-                raised(4)
-            }
-        } else {
-            if a % 16 == 0 {
-                store_four(m, journal, q, r, a, w, y)
-            } else {
-                raised(4)
-            }
-        }
+        return good(0);
     }
+    if !is_aligned(double, a) {
+        return raised(4);
+    }
+    if double {
+        return store_pair(m, journal, q, r, a, w.w0, y);
+    }
+    store_four(m, journal, q, r, a, w, y)
 }

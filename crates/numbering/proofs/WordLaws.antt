@@ -2,9 +2,9 @@
 -- Assumes nothing.
 use Prim.Native.Nat.{ℕ, _+_, _/_, _%_, _<_, _≤_}
 use mathlib.Core.Path.{_≡_, refl, sym, ap, _∙_}
-use mathlib.Core.Bool.{true, false, _&&_}
+use mathlib.Core.Bool.{true, false, not, _&&_}
 use mathlib.Core.List.{List}
-use borrow.Author.Tests.{eq-eqb, ne-eqb, lt-ltb, le-ltb, ltb-true}
+use borrow.Author.Tests.{eq-eqb, ne-eqb, lt-ltb, le-ltb, ltb-true, not-true, not-false}
 use lib.ListN.{length, getD}
 use lib.Dec.{ltb, eqb}
 use Rattle.laws.proofs.Cases.{and-left}
@@ -40,34 +40,40 @@ use Rattle.isa.specs.Encode.{encodeOf}
 use Rattle.numbering.specs.Numbering.{isShort, shortNamed, shortIn, modeAt, operandIn, isDyadic, dyadicNamed, dyadicIn, monadicModeIn, isMonadic, monadicNamed, monadicIn, formIn, instructionIn}
 use Rattle.numbering.specs.Calls.{codeOf}
 
+-- row_code
+module _ (q : ShortRow) (r x y n : ℕ) (l : ShortListed) (g : l ≡ shortListed q) where
+  at-base : shortListed q .base ≡ l .base
+  at-base = sym (ap (λ (m : ShortListed). m .base) g)
+
+  pub row-held : l .base ≡ r → (c : Encoded) → c ≡ encodeOf (instruction.Short (record { row = q; source = x; destination = y })) n
+      → (a b : FieldMode) → c ≡ codeOf (shortNamed (short.Row q a b) r x y) n
+  row-held f c i a b = rw (eq-eqb (shortListed q .base) r (at-base ∙ f)) i
+
+  pub row-other : (l .base ≡ r → ⊥) → (a b : FieldMode) → Refused 5 ≡ codeOf (shortNamed (short.Row q a b) r x y) n
+  row-other f a b = rw (ne-eqb (shortListed q .base) r (λ z. f (sym at-base ∙ z))) refl
+
 -- short_code
-pub a-parcel : (r w p s d : ℕ) → isShort r w p s d ≡ true → r < 0x8000
+pub a-parcel : (r w p s d : ℕ) → not (isShort r w p s d) ≡ false → r < 0x8000
 a-parcel r w p s d t =
     let a = ltb r 0x8000 in
     let b = a && eqb w 0 in
     let c = b && eqb p 0 in
-    ltb-true r 0x8000 (and-left a (eqb w 0) (and-left b (eqb p 0) (and-left c (eqb s 0) (and-left (c && eqb s 0) (eqb d 0) t))))
+    ltb-true r 0x8000 (and-left a (eqb w 0) (and-left b (eqb p 0) (and-left c (eqb s 0) (and-left (c && eqb s 0) (eqb d 0) (not-false (isShort r w p s d) t)))))
 
 module _ (r w p s x d y n : ℕ) where
-  pub short-none : isShort r w p s d ≡ false → Refused 5 ≡ codeOf (shortIn r w p s x d y) n
+  pub short-none : not (isShort r w p s d) ≡ true → Refused 5 ≡ codeOf (shortIn r w p s x d y) n
   unfolding shortIn
-  short-none t = rw t refl
+  short-none t = rw (not-true (isShort r w p s d) t) refl
 
-  module _ (k e : ShortEntry) (t : isShort r w p s d ≡ true) (ek : k ≡ shortOf (r / 1024 % 32)) (ee : e ≡ shortEntry k r) where
-    pub short-at : (g : ShortEntry) (c : Encoded) → e ≡ g → c ≡ codeOf (shortNamed g r x y) n → c ≡ codeOf (shortIn r w p s x d y) n
-    unfolding shortIn
-    short-at g c h i = rw (t, sym ek, sym ee, h) i
+  pub short-at : (k e : ShortEntry) → not (isShort r w p s d) ≡ false → k ≡ shortOf (r / 1024 % 32) → e ≡ shortEntry k r
+      → (g : ShortEntry) (c : Encoded) → e ≡ g → c ≡ codeOf (shortNamed g r x y) n → c ≡ codeOf (shortIn r w p s x d y) n
+  unfolding shortIn
+  short-at k e t ek ee g c h i = rw (not-false (isShort r w p s d) t, sym ek, sym ee, h) i
 
-    module _ (q : ShortRow) (a b : FieldMode) (l : ShortListed) (h : e ≡ short.Row q a b) (g : l ≡ shortListed q) where
-      at-base : shortListed q .base ≡ l .base
-      at-base = sym (ap (λ (m : ShortListed). m .base) g)
-
-      pub short-held : (c : Encoded) → l .base ≡ r → c ≡ encodeOf (instruction.Short (record { row = q; source = x; destination = y })) n
-          → c ≡ codeOf (shortIn r w p s x d y) n
-      short-held c f i = short-at (short.Row q a b) c h (rw (eq-eqb (shortListed q .base) r (at-base ∙ f)) i)
-
-      pub short-other : (l .base ≡ r → ⊥) → Refused 5 ≡ codeOf (shortIn r w p s x d y) n
-      short-other f = short-at (short.Row q a b) (Refused 5) h (rw (ne-eqb (shortListed q .base) r (λ z. f (sym at-base ∙ z))) refl)
+  pub short-row : (k e : ShortEntry) → not (isShort r w p s d) ≡ false → k ≡ shortOf (r / 1024 % 32) → e ≡ shortEntry k r
+      → (q : ShortRow) (a b : FieldMode) (c : Encoded) → e ≡ short.Row q a b → ((i j : FieldMode) → c ≡ codeOf (shortNamed (short.Row q i j) r x y) n)
+      → c ≡ codeOf (shortIn r w p s x d y) n
+  short-row k e t ek ee q a b c h f = short-at k e t ek ee (short.Row q a b) c h (f a b)
 
 -- operand_in
 pub a-register : (k v : ℕ) → k ≡ 16 → Register v ≡ operandIn k v

@@ -18,6 +18,7 @@ use isa::MonadicRule;
 use isa::Operand;
 use isa::ShortEntry;
 use isa::ShortInstruction;
+use isa::ShortRow;
 use isa::Wide;
 use tables::modes::find_general;
 use tables::modes::find_monadic_mode;
@@ -25,39 +26,44 @@ use tables::parcel::find_short;
 use tables::wide::find_dyadic;
 use tables::wide::find_monadic;
 ghost use mathlib.Core.Path.{_≡_};
-ghost use Rattle.numbering.specs.Numbering.{shortIn, operandIn, dyadicIn, monadicModeIn, monadicIn, instructionIn};
+ghost use Rattle.isa.specs.declared.FieldMode.{FieldMode};
+ghost use Rattle.isa.specs.declared.ShortEntry.the-variants as short;
+ghost use Rattle.numbering.specs.Numbering.{shortNamed, shortIn, operandIn, dyadicIn, monadicModeIn, monadicIn, instructionIn};
 ghost use Rattle.numbering.specs.Calls.{codeOf};
+
+// The row q with operands x and y, which r names if it has no operand bits.
+fn row_code(q: ShortRow, r: u32, x: u32, y: u32, n: u32) -> Encoded
+    ensures { λ c. ⌜ ((s d : FieldMode) → c ≡ codeOf (shortNamed (short.Row q s d) r x y) n) ⌝ }
+{
+    let listed = list_short(q);
+    if listed.base != r {
+        return Encoded::Refused(NO_CODE);
+    }
+    encode(
+        Instruction::Short(ShortInstruction {
+            row: q,
+            source: x,
+            destination: y,
+        }),
+        n,
+    )
+}
 
 fn short_code(r: u32, w: u32, p: u32, s: u32, x: u32, d: u32, y: u32, n: u32) -> Encoded
     ensures { λ c. ⌜ c ≡ codeOf (shortIn r w p s x d y) n ⌝ }
 {
-    if (r < 0x8000) & (w == 0) & (p == 0) & (s == 0) & (d == 0) {
-        let e = find_entry(find_short(r / 1024 % 32), r as u16);
-        match e {
-            ShortEntry::Row(q, _, _) => {
-                let listed = list_short(q);
-                if listed.base == r {
-                    encode(
-                        Instruction::Short(ShortInstruction {
-                            row: q,
-                            source: x,
-                            destination: y,
-                        }),
-                        n,
-                    )
-                } else {
-                    Encoded::Refused(NO_CODE)
-                }
-            }
-            ShortEntry::Stack => Encoded::Refused(NO_CODE),
-            ShortEntry::Niladic => Encoded::Refused(NO_CODE),
-            ShortEntry::Prefix => Encoded::Refused(NO_CODE),
-            ShortEntry::Unimplemented => Encoded::Refused(NO_CODE),
-            ShortEntry::Trap => Encoded::Refused(NO_CODE),
-            ShortEntry::Unlisted => Encoded::Refused(NO_CODE),
-        }
-    } else {
-        Encoded::Refused(NO_CODE)
+    if !((r < 0x8000) & (w == 0) & (p == 0) & (s == 0) & (d == 0)) {
+        return Encoded::Refused(NO_CODE);
+    }
+    let e = find_entry(find_short(r / 1024 % 32), r as u16);
+    match e {
+        ShortEntry::Row(q, _, _) => row_code(q, r, x, y, n),
+        ShortEntry::Stack => Encoded::Refused(NO_CODE),
+        ShortEntry::Niladic => Encoded::Refused(NO_CODE),
+        ShortEntry::Prefix => Encoded::Refused(NO_CODE),
+        ShortEntry::Unimplemented => Encoded::Refused(NO_CODE),
+        ShortEntry::Trap => Encoded::Refused(NO_CODE),
+        ShortEntry::Unlisted => Encoded::Refused(NO_CODE),
     }
 }
 

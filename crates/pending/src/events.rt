@@ -47,26 +47,21 @@ fn find_due(b: &[u32; 17], level: u32) -> u32
 {
     let p = priority(b[6]);
     if (level == 0) & (b[16] != 1) {
-        0x10
-    } else {
-        if (level == 1) & (1 < p) {
-            0x11
-        } else {
-            if (b[14] == 1) & (1 < p) {
-                0x17
-            } else {
-                if (b[15] == 1) & (1 < p) {
-                    0x18
-                } else {
-                    if (2 <= level) & (level <= 6) & (level < p) {
-                        plus(0x10, level)
-                    } else {
-                        if b[13] == 1 { 0x2 } else { 0 }
-                    }
-                }
-            }
-        }
+        return 0x10;
     }
+    if (level == 1) & (1 < p) {
+        return 0x11;
+    }
+    if (b[14] == 1) & (1 < p) {
+        return 0x17;
+    }
+    if (b[15] == 1) & (1 < p) {
+        return 0x18;
+    }
+    if (2 <= level) & (level <= 6) & (level < p) {
+        return plus(0x10, level);
+    }
+    if b[13] == 1 { 0x2 } else { 0 }
 }
 
 // The same, with the test that most steps end at.
@@ -111,13 +106,13 @@ pub fn taken(b: &mut [u32; 17], code: u32)
 {
     if code == 0x17 {
         b[14] = 0;
-    } else {
-        if code == 0x18 {
-            b[15] = 0;
-        } else {
-            if code <= 16 {
-                low_taken(b, code);
-            }
-        }
+        return;
+    }
+    if code == 0x18 {
+        b[15] = 0;
+        return;
+    }
+    if code <= 16 {
+        low_taken(b, code);
     }
 }

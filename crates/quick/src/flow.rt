@@ -76,18 +76,20 @@ fn jump_if(r: &mut [u32; 17], taken: bool, mode: MonadicMode, v: u32, n: u32) ->
 fn call(q: &mut [[u32; 4]; 16], r: &mut [u32; 17], mode: MonadicMode, v: u32, n: u32) -> bool
     ensures { λ z. ⌜ IfElse z ((callOf (entryCpu q r) mode v n ≡ done (exitCpu q r)) × StackAsBefore q r) (unchanged r × unchanged q) ⌝ }
 {
-    let s = r[8];
-    if is_relative(mode) {
-        if cached(r, s) {
-            if s % 4 == 0 {
-                cache_write(Width::Word, q, s, next_pc(r, n));
-                let a = plus(r[5], v);
-                jumped(r, a);
-                return true;
-            }
-        }
+    if !is_relative(mode) {
+        return false;
     }
-    false
+    let s = r[8];
+    if !cached(r, s) {
+        return false;
+    }
+    if s % 4 != 0 {
+        return false;
+    }
+    cache_write(Width::Word, q, s, next_pc(r, n));
+    let a = plus(r[5], v);
+    jumped(r, a);
+    true
 }
 
 // RETURN; one that would lose its stack is left to the step that refuses it.
@@ -126,39 +128,44 @@ fn pop(r: &mut [u32; 17], v: u32, n: u32) -> bool
 fn catch(r: &mut [u32; 17], mode: MonadicMode, v: u32, n: u32) -> bool
     ensures { λ z. ⌜ IfElse z (DoneAnyCache r (λ c. catchOf c mode v n) × StackAsBeforeAnyCache r) (unchanged r) ⌝ }
 {
-    if is_stack(mode) {
-        if cache_on(r) {
-            if stack_address(r, v) <= r[4] {
-                advanced(r, n);
-                return true;
-            }
-        }
+    if !is_stack(mode) {
+        return false;
     }
-    false
+    if !cache_on(r) {
+        return false;
+    }
+    if r[4] < stack_address(r, v) {
+        return false;
+    }
+    advanced(r, n);
+    true
 }
 
 // ENTER with room in the cache: nothing is flushed, and the target is checked.
 fn enter(m: &[u8], r: &mut [u32; 17], mode: MonadicMode, v: u32, n: u32) -> bool
     ensures { λ z. ⌜ IfElse z (GivesAnyCache m r (λ c. enterOf c mode v n) × StackHeldAnyCache r) (unchanged r) ⌝ }
 {
-    let kept = *r;
-    let a = stack_address(r, v) / 16 * 16;
-    if is_stack(mode) {
-        if cache_on(r) {
-            if minus(r[4], a) <= 256 {
-                let x = check_store(m, r, a);
-                if x < 0x1_0000_0000 {
-                    with_csp(r, a);
-                    with_guard(r, true);
-                    advanced(r, n);
-                    if stack_held(r[8], r[4]) {
-                        return true;
-                    }
-                    *r = kept;
-                }
-            }
-        }
+    if !is_stack(mode) {
+        return false;
     }
+    if !cache_on(r) {
+        return false;
+    }
+    let a = stack_address(r, v) / 16 * 16;
+    if 256 < minus(r[4], a) {
+        return false;
+    }
+    if 0x1_0000_0000 <= check_store(m, r, a) {
+        return false;
+    }
+    let kept = *r;
+    with_csp(r, a);
+    with_guard(r, true);
+    advanced(r, n);
+    if stack_held(r[8], r[4]) {
+        return true;
+    }
+    *r = kept;
     false
 }
 

@@ -21,17 +21,20 @@ pub(crate) fn text_place(m: &[u8], r: &[u32; 17], a: u32) -> u64
     ensures { λ x. ⌜ (x < 2 ^ 32 → Quiet (regime (now (r .entry))) kind.Fetch a (now (m .entry)) x
         × (a % 2 ≡ 0) × (a % 0x1000 + 10 ≤ 0x1000) × (a < 2 ^ 32) × (x + 10 ≤ length (now (m .entry)))) ⌝ }
 {
-    if a % 2 == 0 {
-        if a % 0x1000 <= 0xFF6 {
-            let x = fetch_place(m, r[9], is_user(r), is_virtual(r), a);
-            if x < 0x1_0000_0000 {
-                if x as usize + 10 <= m.len() {
-                    return x;
-                }
-            }
-        }
+    if a % 2 != 0 {
+        return 0x1_0000_0000;
     }
-    0x1_0000_0000
+    if 0xFF6 < a % 0x1000 {
+        return 0x1_0000_0000;
+    }
+    let x = fetch_place(m, r[9], is_user(r), is_virtual(r), a);
+    if 0x1_0000_0000 <= x {
+        return x;
+    }
+    if m.len() < x as usize + 10 {
+        return 0x1_0000_0000;
+    }
+    x
 }
 
 // The parcel at a place in memory.

@@ -15,8 +15,17 @@ use isa::Operand;
 use isa::ShortRow;
 use isa::Wide;
 ghost use mathlib.Core.Path.{_≡_};
+ghost use Rattle.isa.specs.declared.Mode.the-variants as mode;
 ghost use Rattle.exec.specs.Execute.{shortNormal, taskOf, monadicOf, normal};
+ghost use Rattle.rows.specs.declared.ShortForm.the-variants as form;
 ghost use Rattle.rows.specs.Rows.{formed, actionOf};
+
+// A task whose destination is a word of the stack.
+fn to_stack(task: Task, source: Mode) -> ShortForm
+    ensures { λ r. ⌜ r ≡ form.Two task source mode.StackWord ⌝ }
+{
+    ShortForm::Two(task, source, Mode::StackWord)
+}
 
 // What a one-parcel row does.
 pub fn short_form(row: ShortRow) -> ShortForm
@@ -30,78 +39,26 @@ pub fn short_form(row: ShortRow) -> ShortForm
         ShortRow::Jmpfy => ShortForm::One(Monadic::JmpFalse, MonadicMode::FlowRelative),
         ShortRow::Jmptn => ShortForm::One(Monadic::JmpTrue, MonadicMode::FlowRelative),
         ShortRow::Jmpty => ShortForm::One(Monadic::JmpTrue, MonadicMode::FlowRelative),
-        ShortRow::MovWaiStk => ShortForm::Two(Task::Move, Mode::Immediate, Mode::StackWord),
-        ShortRow::Add3WaiStk => ShortForm::Two(
-            Task::Accumulate(Operation::Add),
-            Mode::Immediate,
-            Mode::StackWord,
-        ),
-        ShortRow::And3ImmStk => ShortForm::Two(
-            Task::Accumulate(Operation::And),
-            Mode::Immediate,
-            Mode::StackWord,
-        ),
-        ShortRow::AndStkStk => ShortForm::Two(
-            Task::Compute(Operation::And),
-            Mode::StackWord,
-            Mode::StackWord,
-        ),
-        ShortRow::CmpeqImmStk => ShortForm::Two(
-            Task::Compare(Relation::Equal),
-            Mode::Immediate,
-            Mode::StackWord,
-        ),
-        ShortRow::CmpgtStkStk => ShortForm::Two(
-            Task::Compare(Relation::Greater),
-            Mode::StackWord,
-            Mode::StackWord,
-        ),
-        ShortRow::CmpgtImmStk => ShortForm::Two(
-            Task::Compare(Relation::Greater),
-            Mode::Immediate,
-            Mode::StackWord,
-        ),
-        ShortRow::CmpeqStkStk => ShortForm::Two(
-            Task::Compare(Relation::Equal),
-            Mode::StackWord,
-            Mode::StackWord,
-        ),
-        ShortRow::AddImmStk => ShortForm::Two(
-            Task::Compute(Operation::Add),
-            Mode::Immediate,
-            Mode::StackWord,
-        ),
-        ShortRow::Add3ImmStk => ShortForm::Two(
-            Task::Accumulate(Operation::Add),
-            Mode::Immediate,
-            Mode::StackWord,
-        ),
-        ShortRow::AddStkStk => ShortForm::Two(
-            Task::Compute(Operation::Add),
-            Mode::StackWord,
-            Mode::StackWord,
-        ),
-        ShortRow::Add3StkStk => ShortForm::Two(
-            Task::Accumulate(Operation::Add),
-            Mode::StackWord,
-            Mode::StackWord,
-        ),
-        ShortRow::MovStkStk => ShortForm::Two(Task::Move, Mode::StackWord, Mode::StackWord),
-        ShortRow::MovIstkStk => ShortForm::Two(Task::Move, Mode::IndirectWord, Mode::StackWord),
+        ShortRow::MovWaiStk => to_stack(Task::Move, Mode::Immediate),
+        ShortRow::Add3WaiStk => to_stack(Task::Accumulate(Operation::Add), Mode::Immediate),
+        ShortRow::And3ImmStk => to_stack(Task::Accumulate(Operation::And), Mode::Immediate),
+        ShortRow::AndStkStk => to_stack(Task::Compute(Operation::And), Mode::StackWord),
+        ShortRow::CmpeqImmStk => to_stack(Task::Compare(Relation::Equal), Mode::Immediate),
+        ShortRow::CmpgtStkStk => to_stack(Task::Compare(Relation::Greater), Mode::StackWord),
+        ShortRow::CmpgtImmStk => to_stack(Task::Compare(Relation::Greater), Mode::Immediate),
+        ShortRow::CmpeqStkStk => to_stack(Task::Compare(Relation::Equal), Mode::StackWord),
+        ShortRow::AddImmStk => to_stack(Task::Compute(Operation::Add), Mode::Immediate),
+        ShortRow::Add3ImmStk => to_stack(Task::Accumulate(Operation::Add), Mode::Immediate),
+        ShortRow::AddStkStk => to_stack(Task::Compute(Operation::Add), Mode::StackWord),
+        ShortRow::Add3StkStk => to_stack(Task::Accumulate(Operation::Add), Mode::StackWord),
+        ShortRow::MovStkStk => to_stack(Task::Move, Mode::StackWord),
+        ShortRow::MovIstkStk => to_stack(Task::Move, Mode::IndirectWord),
         ShortRow::MovStkIstk => ShortForm::Two(Task::Move, Mode::StackWord, Mode::IndirectWord),
         ShortRow::MovIstkIstk => ShortForm::Two(Task::Move, Mode::IndirectWord, Mode::IndirectWord),
-        ShortRow::MovImmStk => ShortForm::Two(Task::Move, Mode::Immediate, Mode::StackWord),
-        ShortRow::MovaStkStk => ShortForm::Two(Task::MoveAddress, Mode::StackWord, Mode::StackWord),
-        ShortRow::Shl3UimmStk => ShortForm::Two(
-            Task::Accumulate(Operation::Shl),
-            Mode::Immediate,
-            Mode::StackWord,
-        ),
-        ShortRow::Shr3UimmStk => ShortForm::Two(
-            Task::Accumulate(Operation::Shr),
-            Mode::Immediate,
-            Mode::StackWord,
-        ),
+        ShortRow::MovImmStk => to_stack(Task::Move, Mode::Immediate),
+        ShortRow::MovaStkStk => to_stack(Task::MoveAddress, Mode::StackWord),
+        ShortRow::Shl3UimmStk => to_stack(Task::Accumulate(Operation::Shl), Mode::Immediate),
+        ShortRow::Shr3UimmStk => to_stack(Task::Accumulate(Operation::Shr), Mode::Immediate),
         ShortRow::Enter => ShortForm::One(Monadic::Enter, MonadicMode::WordStack),
         ShortRow::Catch => ShortForm::One(Monadic::Catch, MonadicMode::WordStack),
         ShortRow::Return => ShortForm::One(Monadic::Return, MonadicMode::WordStack),

@@ -2,8 +2,9 @@
 -- Assumes nothing.
 use Prim.Native.Nat.{ℕ, _+_, _-_, _*_, _/_, _%_, _^_, _<_, _≤_}
 use mathlib.Core.Path.{_≡_, refl, sym, ap, _∙_}
-use mathlib.Core.Bool.{Bool, true, false, not}
+use mathlib.Core.Bool.{Bool, true, false, cond, not}
 use native.Mathlib.Omega.{arith}
+use lib.Dec.{eqb}
 use lib.ListN.{set, length, length-set}
 use borrow.Author.Tests.{ne-eqb, lt-ltb, le-ltb}
 use Rattle.memory.specs.Answers.{Answer, answerOf}
@@ -13,10 +14,11 @@ use Rattle.program.specs.Access.{Gave, gave}
 use Rattle.program.specs.Program.{interpret}
 use Rattle.program.specs.Journal.{Journal, undo, journaled, logging}
 use Rattle.program.proofs.Bytes.{Bytes}
-use Rattle.machine.specs.Registers.{Bank, word, config, psw}
+use Rattle.machine.specs.Registers.{Bank, word, config, psw, nmiTaken}
 use Rattle.machine.specs.Cache.{Cache}
-use Rattle.machine.specs.Status.{Cpu, cpu, isUser}
-use Rattle.access.specs.Parts.{Out, ok}
+use Rattle.machine.specs.Status.{Cpu, cpu, reg, with, isUser}
+use Rattle.machine.proofs.BankLaws.{word-set-other}
+use Rattle.access.specs.Parts.{Out, ok, stop}
 use Rattle.pending.specs.Traces.{tracedFrom}
 use Rattle.step.specs.Events.{Due, dueOf, eventCode, looked}
 use Rattle.step.specs.Timers.{counted}
@@ -29,7 +31,7 @@ use Rattle.attempts.proofs.AttemptLaws.{confined-attempted}
 use Rattle.steps.proofs.EventLaws.{due-is, due-small, due-event}
 use Rattle.bounds.proofs.Counts.{step-bounded, confined-bounded}
 use Rattle.bounds.proofs.Held.{holds-traced, holds-counted}
-use Rattle.runs.specs.Code.{turned}
+use Rattle.runs.specs.Code.{turned, settled}
 use Rattle.runs.proofs.Back.{Long, plainly, put-back, still-long}
 
 -- ---- the number of a stop
@@ -82,7 +84,74 @@ module _ (level : ℕ) (b : Bank) (q : Cache) (m : Memory) (x : Journal) (long :
       after : Cpu
       after = counted (word b config) (not (isUser b)) z (cpu a p)
 
--- ---- kind 04: i is the bank after the look, n the number of what is due
+-- ---- kind 04, what an attempt leaves: b and q are before the look, a and p after the attempt, r its answer
+
+looked-psw : (level : ℕ) (b : Bank) (q : Cache) → reg (looked level (cpu b q)) psw ≡ word b psw
+looked-psw level b q = go (eqb level 0)
+  where
+    go : (t : Bool) → reg (cond t (cpu b q) (with (cpu b q) nmiTaken 0)) psw ≡ word b psw
+    go true = refl
+    go false = word-set-other b nmiTaken 0 psw refl
+
+module _ (level : ℕ) (b : Bank) (q : Cache) (r : ℕ) (a : Bank) (p : Cache) (m : Memory) where
+  abbrev settles : Answer → Turn
+  settles x = settled (cpu b q) (looked level (cpu b q)) (triedOut x a p) m
+
+  pub settle-fault : 2 ^ 32 ≤ r → (o g : ℕ) → o ≡ r % 2 ^ 32 → g ≡ 2 * 2 ^ 32 + o → turned g (board (cpu a p) m) ≡ settles (answerOf r)
+  settle-fault h o g eo eg =
+      turned-stop o g (board (cpu a p) m) (omega arith) eg
+      ∙ ap (λ (j : ℕ). ends eventDue j (board (cpu a p) m)) eo
+      ∙ sym (ap settles (answer-high r h))
+
+  -- only fetched: d is the bank looked at again
+  pub settle-fetched : 3 ≤ r → r < 2 ^ 32 → (d : Bank) → Made b d (λ c. looked level c) → (g : ℕ) → g ≡ 2 * 2 ^ 32 + r
+      → turned g (board (cpu d q) m) ≡ settles (answerOf r)
+  settle-fetched l h d ed g eg =
+      turned-stop r g (board (cpu d q) m) h eg
+      ∙ ap (λ (c : Cpu). ends eventDue r (board c m)) (ed q)
+      ∙ sym (ap (λ (j : Out Tried). settled (cpu b q) (looked level (cpu b q)) j m) only)
+    where
+      only : triedOut (answerOf r) a p ≡ ok (fetched r)
+      only = simp (answer-got r h, le-ltb r 3 l)
+
+  -- finished: d is the bank with its trace, o with the timers too
+  pub settle-done : r < 3 → (j : ℕ) → j ≡ r % 2 ^ 32 → (z : Bool) → z ≡ tracesAt (word b psw) (tracedFrom j) → (d : Bank) → Made a d (λ c. traceFalls z c)
+      → (o : Bank) → Made d o (λ c. counted (word b config) (not (isUser b)) true c) → goes (board (cpu o p) m) ≡ settles (answerOf r)
+  settle-done h j ej z ez d ed o eo =
+      ap (λ (c : Cpu). goes (board c m)) (eo p ∙ ap (λ (c : Cpu). counted (word b config) (not (isUser b)) true c) (ed p ∙ ap (λ (l : Bool). traceFalls l (cpu a p)) traces))
+      ∙ sym (ap (λ (l : Out Tried). settled (cpu b q) (looked level (cpu b q)) l m) finished)
+    where
+      finished : triedOut (answerOf r) a p ≡ ok (tried (tracedFrom r) (cpu a p))
+      finished = let l : r < 2 ^ 32 = omega arith in simp (answer-got r l, lt-ltb r 3 h)
+
+      whole : j ≡ r
+      whole = omega arith
+
+      traces : z ≡ tracesAt (reg (looked level (cpu b q)) psw) (tracedFrom r)
+      traces = ez ∙ ap (λ (l : ℕ). tracesAt (word b psw) (tracedFrom l)) whole ∙ ap (λ (l : ℕ). tracesAt l (tracedFrom r)) (sym (looked-psw level b q))
+
+-- the board that a turn leaves
+abbrev boardOf : Turn → Board
+boardOf (goes s) = s
+boardOf (ends n k s) = s
+
+turned-board : (g : ℕ) (s : Board) → boardOf (turned g s) ≡ s
+turned-board g s = go (eqb g 0)
+  where
+    go : (t : Bool) → boardOf (cond t (goes s) (ends (g / 2 ^ 32) (g % 2 ^ 32) s)) ≡ s
+    go true = refl
+    go false = refl
+
+-- trace and timers leave the stack as it was
+settled-judged : (s : Board) (c : Cpu) (o : Out Tried) (m : Memory)
+    → unlessLost (holdsStack (boardOf (settled (s .cpu) c o m) .cpu)) s (settled (s .cpu) c o m) ≡ afterTry s c o m
+settled-judged s c (ok (tried t d)) m =
+    ap (λ (l : Bool). unlessLost l s (settled (s .cpu) c (ok (tried t d)) m))
+    (holds-counted (reg (s .cpu) config) (not (isUser (s .cpu .bank))) true (traceFalls (tracesAt (reg c psw) t) d) ∙ holds-traced (tracesAt (reg c psw) t) d)
+settled-judged s c (ok (fetched n)) m = refl
+settled-judged s c (stop e d) m = refl
+
+-- ---- kind 04, the turn: i is the bank after the look, n the number of what is due
 
 module _ (level : ℕ) (b : Bank) (q : Cache) (m : Memory) (i : Bank) (ei : Made b i (λ c. looked level c)) (n : ℕ) (en : n ≡ dueCode (dueOf level i)) where
   confined-by : confinedTurn level (board (cpu b q) m) ≡ confinedFor (dueFrom n) (board (cpu b q) m) (cpu i q)
@@ -125,49 +194,18 @@ module _ (level : ℕ) (b : Bank) (q : Cache) (m : Memory) (i : Bank) (ei : Made
     confined-long =
         still-long 75 (confinedAttempt (cpu i q)) (triedOut (answerOf r) a p) m x k y (confined-bounded (cpu i q)) (omega arith) long bytes x₀ ex tried-as
 
-    module _ (t : Turn) where
-      pub confined-fault : 2 ^ 32 ≤ r → (o g : ℕ) → o ≡ r % 2 ^ 32 → g ≡ 2 * 2 ^ 32 + o
-          → t ≡ unlessLost (holdsStack (cpu a p)) (board (cpu b q) (undo y k)) (turned g (board (cpu a p) k)) → t ≡ confinedTurn level s
-      confined-fault h o g eo eg f =
-          judged s (cpu a p) (cpu a p) (undo y k) t (λ c. turned g (board c k)) refl undone-is f
-          ∙ ap (λ (j : Turn). unlessLost (holdsStack (cpu a p)) s j) (turned-stop o g (board (cpu a p) k) (omega arith) eg ∙ ap (λ (j : ℕ). ends eventDue j (board (cpu a p) k)) eo)
-          ∙ sym (turn-is ∙ ap (λ (j : Answer). afterTry s (cpu i q) (triedOut j a p) k) (answer-high r h))
-
-      -- only fetched: d is the bank looked at again
-      pub confined-fetched : r < 2 ^ 32 → 3 ≤ r → (d : Bank) → Made b d (λ c. looked level c) → (g : ℕ) → g ≡ 2 * 2 ^ 32 + r
-          → t ≡ unlessLost (holdsStack (cpu d q)) (board (cpu b q) (undo y k)) (turned g (board (cpu d q) k)) → t ≡ confinedTurn level s
-      confined-fetched h l d ed g eg f =
-          judged s (cpu d q) (cpu i q) (undo y k) t (λ c. turned g (board c k)) (ed q ∙ sym (ei q)) undone-is f
-          ∙ ap (λ (j : Turn). unlessLost (holdsStack (cpu i q)) s j) (turned-stop r g (board (cpu i q) k) h eg)
-          ∙ sym (turn-is ∙ ap (λ (j : Out Tried). afterTry s (cpu i q) j k) only)
-        where
-          only : triedOut (answerOf r) a p ≡ ok (fetched r)
-          only = simp (answer-got r h, le-ltb r 3 l)
-
-      -- finished: d is the bank with its trace, o with the timers too
-      pub confined-done : r < 3 → (j : ℕ) → j ≡ r % 2 ^ 32 → (z : Bool) → z ≡ tracesAt (word i psw) (tracedFrom j) → (d : Bank) → Made a d (λ c. traceFalls z c)
-          → (o : Bank) → Made d o (λ c. counted (word b config) (not (isUser b)) true c)
-          → t ≡ unlessLost (holdsStack (cpu o p)) (board (cpu b q) (undo y k)) (goes (board (cpu o p) k)) → t ≡ confinedTurn level s
-      confined-done h j ej z ez d ed o eo f =
-          judged s (cpu o p) after (undo y k) t (λ c. goes (board c k)) timed-as undone-is f
-          ∙ ap (λ (l : Bool). unlessLost l s (goes (board after k))) (holds-counted (word b config) (not (isUser b)) true (traceFalls traces (cpu a p)) ∙ holds-traced traces (cpu a p))
-          ∙ sym (turn-is ∙ ap (λ (l : Out Tried). afterTry s (cpu i q) l k) finished)
-        where
-          finished : triedOut (answerOf r) a p ≡ ok (tried (tracedFrom r) (cpu a p))
-          finished = let l : r < 2 ^ 32 = omega arith in simp (answer-got r l, lt-ltb r 3 h)
-
-          traces : Bool
-          traces = tracesAt (word i psw) (tracedFrom r)
-
-          after : Cpu
-          after = counted (word b config) (not (isUser b)) true (traceFalls traces (cpu a p))
-
-          whole : j ≡ r
-          whole = omega arith
-
-          timed-as : cpu o p ≡ after
-          timed-as =
-              eo p ∙ ap (λ (c : Cpu). counted (word b config) (not (isUser b)) true c) (ed p ∙ ap (λ (l : Bool). traceFalls l (cpu a p)) (ez ∙ ap (λ (l : ℕ). tracesAt (word i psw) (tracedFrom l)) whole))
+    -- o and w are bank and cache as they were settled, g how the turn would end
+    pub confined-settled : (o : Bank) (w : Cache) (g : ℕ)
+        → ((l : Memory) → turned g (board (cpu o w) l) ≡ settled (cpu b q) (looked level (cpu b q)) (triedOut (answerOf r) a p) l)
+        → (t : Turn) → t ≡ unlessLost (holdsStack (cpu o w)) (board (cpu b q) (undo y k)) (turned g (board (cpu o w) k)) → t ≡ confinedTurn level s
+    confined-settled o w g h t f =
+        f
+        ∙ ap (λ (l : Memory). unlessLost (holdsStack (cpu o w)) (board (cpu b q) l) (turned g (board (cpu o w) k))) undone-is
+        ∙ ap (λ (l : Board). unlessLost (holdsStack (l .cpu)) s (turned g (board (cpu o w) k))) (sym (turned-board g (board (cpu o w) k)))
+        ∙ ap (λ (l : Turn). unlessLost (holdsStack (boardOf l .cpu)) s l) (h k)
+        ∙ settled-judged s (looked level (cpu b q)) (triedOut (answerOf r) a p) k
+        ∙ ap (λ (c : Cpu). afterTry s c (triedOut (answerOf r) a p) k) (sym (ei q))
+        ∙ sym turn-is
 
 -- ---- either kind
 

@@ -71,22 +71,18 @@ fn refusal(m: &[u8], r: &[u32; 17], confined: bool, level: u32) -> u32
     ensures { λ x. ⌜ ((q : Cache) → x ≡ refusalOf confined level (board (cpu (now (r .entry)) q) (now (m .entry)))) ⌝ }
 {
     if !whole_pages(m.len()) {
-        1
-    } else {
-        if !good_bank(r) {
-            2
-        } else {
-            if 7 < level {
-                3
-            } else {
-                if confined & !(is_user(r) & is_virtual(r)) {
-                    9
-                } else {
-                    0
-                }
-            }
-        }
+        return 1;
     }
+    if !good_bank(r) {
+        return 2;
+    }
+    if 7 < level {
+        return 3;
+    }
+    if confined & !(is_user(r) & is_virtual(r)) {
+        return 9;
+    }
+    0
 }
 
 // A run of a lent machine and memory: kind 03, which takes events, or kind 04, confined.

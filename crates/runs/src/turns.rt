@@ -17,15 +17,19 @@ ghost use mathlib.Core.Path.{_≡_};
 ghost use mathlib.Core.Bool.{not};
 ghost use Prim.Native.Nat.{_%_};
 ghost use lib.ListN.{length};
+ghost use Rattle.memory.specs.Answers.{answerOf};
+ghost use Rattle.memory.specs.Bytes.{Memory};
 ghost use Rattle.program.specs.Journal.{undo as undoOf};
 ghost use Rattle.machine.specs.Registers.{word, config};
 ghost use Rattle.machine.specs.Status.{isUser};
-ghost use Rattle.access.specs.Contracts.{entryCpu, Becomes};
+ghost use Rattle.access.specs.Contracts.{entryCpu, exitCpu, Becomes};
+ghost use Rattle.step.specs.Events.{looked as lookedOf};
 ghost use Rattle.step.specs.Timers.{counted as countedOf};
 ghost use Rattle.step.specs.Step.{holdsStack};
 ghost use Rattle.run.specs.Run.{board, unlessLost, turn as turnFor, confinedTurn, turnOf};
 ghost use Rattle.run.specs.Boards.{entryBoard, exitBoard};
-ghost use Rattle.runs.specs.Code.{turned};
+ghost use Rattle.attempts.specs.Code.{triedOut};
+ghost use Rattle.runs.specs.Code.{turned, settled};
 
 // A turn that would end with x; one that loses its stack is refused with number 4 and leaves what was before it.
 fn judge(
@@ -77,7 +81,34 @@ fn turn(
     judge(m, journal, q, r, &bank, &cache, 0)
 }
 
-// Kind 04: before the first event sequence. An instruction that has only been fetched leaves what the look left.
+// What a confined turn leaves whose attempt answered x, and how it ends if the stack holds. An instruction that has only
+// been fetched leaves what the look left.
+fn settle(
+    q: &mut [[u32; 4]; 16],
+    r: &mut [u32; 17],
+    bank: &[u32; 17],
+    cache: &[[u32; 4]; 16],
+    level: u32,
+    x: u64,
+) -> u64
+    ensures { λ y. ⌜ ((m : Memory) → turned y (board (exitCpu q r) m)
+        ≡ settled (entryCpu cache bank) (lookedOf level (entryCpu cache bank)) (triedOut (answerOf x) (now (r .entry)) (now (q .entry))) m) ⌝ }
+{
+    if x < 3 {
+        trace_falls(r, traces_at(bank[6], low32(x)));
+        count_turn(r, bank, true);
+        return 0;
+    }
+    if 0x1_0000_0000 <= x {
+        return 0x2_0000_0000 + low32(x) as u64;
+    }
+    *r = *bank;
+    *q = *cache;
+    looked(r, level);
+    0x2_0000_0000 + x
+}
+
+// Kind 04: before the first event sequence.
 fn confined_turn(
     m: &mut [u8],
     journal: &mut [u64; 201],
@@ -96,28 +127,9 @@ fn confined_turn(
     if due != 0 {
         return 0x2_0000_0000 + due as u64;
     }
-    let p = r[6];
     let x = attempt(m, journal, q, r, true);
-    if x < 3 {
-        trace_falls(r, traces_at(p, low32(x)));
-        count_turn(r, &bank, true);
-        return judge(m, journal, q, r, &bank, &cache, 0);
-    }
-    if x < 0x1_0000_0000 {
-        *r = bank;
-        *q = cache;
-        looked(r, level);
-        return judge(m, journal, q, r, &bank, &cache, 0x2_0000_0000 + x);
-    }
-    judge(
-        m,
-        journal,
-        q,
-        r,
-        &bank,
-        &cache,
-        0x2_0000_0000 + low32(x) as u64,
-    )
+    let y = settle(q, r, &bank, &cache, level, x);
+    judge(m, journal, q, r, &bank, &cache, y)
 }
 
 // A turn of either kind: the quick way where that goes, else with all that may have to be put back.

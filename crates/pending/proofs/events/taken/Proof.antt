@@ -6,17 +6,17 @@ use Rattle.pending.proofs.events.taken.Tie as tie
 element-write-b : tie.Need-element-write-b
 element-write-b c = search needs
 
-element-write-b-2 : tie.Need-element-write-b-2
-element-write-b-2 c = search needs
-
-low-taken-requires : tie.Need-low-taken-requires
-low-taken-requires c κs = search needs
-
 returns : tie.Need-returns
 returns c = search (needs, takes-timer1)
 
+element-write-b-2 : tie.Need-element-write-b-2
+element-write-b-2 c = search needs
+
 returns-2 : tie.Need-returns-2
 returns-2 c = search (needs, takes-timer2)
+
+low-taken-requires : tie.Need-low-taken-requires
+low-taken-requires c κs = search needs
 
 returns-3 : tie.Need-returns-3
 returns-3 c = search needs
@@ -29,9 +29,9 @@ taken-spec =
     tie.close
     (tie.spec
     element-write-b
-    element-write-b-2
-    low-taken-requires
     returns
+    element-write-b-2
     returns-2
+    low-taken-requires
     returns-3
     returns-4)

@@ -1,9 +1,15 @@
-use Rattle.quick.proofs.TextLaws.{quiet-here}
-use mathlib.Core.Path.{refl}
 use native.Mathlib.Omega.{arith}
+use mathlib.Core.Path.{refl}
+use Rattle.quick.proofs.TextLaws.{quiet-here}
 use borrow.Author.Needs.{needs}
 use Rattle.quick.proofs.texts.text_place.Statement.{statement}
 use Rattle.quick.proofs.texts.text_place.Tie as tie
+
+returns : tie.Need-returns
+returns c = λ h. absurd (omega (arith, h))
+
+returns-2 : tie.Need-returns-2
+returns-2 c = λ h. absurd (omega (arith, h))
 
 element-copy-out-fetch-place : tie.Need-element-copy-out-fetch-place
 element-copy-out-fetch-place c = search needs
@@ -17,35 +23,29 @@ is-virtual-requires c κs = search needs
 fetch-place-requires : tie.Need-fetch-place-requires
 fetch-place-requires c κs = search needs
 
+returns-3 : tie.Need-returns-3
+returns-3 c = λ h. absurd (omega (arith, h, (c .if3 .taken)))
+
 add-if4 : tie.Need-add-if4
 add-if4 c = search needs
-
-returns : tie.Need-returns
-returns c = λ h. (quiet-here (c .before .before .before .before .before .before .before .before .before .args .r .now) _ _ _ (c .before .before .before .before .is-user .ensures) (c .before .before .before .is-virtual .ensures) refl _ _ _ (c .before .before .fetch-place .ensures) (c .before .if3 .taken), c .before .before .before .before .before .before .before .if1 .taken, omega (arith, c .before .before .before .before .before .before .if2 .taken), search needs, c .if4 .taken)
-
-returns-2 : tie.Need-returns-2
-returns-2 c = λ h. absurd (omega (arith, h))
-
-returns-3 : tie.Need-returns-3
-returns-3 c = λ h. absurd (omega (arith, h))
 
 returns-4 : tie.Need-returns-4
 returns-4 c = λ h. absurd (omega (arith, h))
 
 returns-5 : tie.Need-returns-5
-returns-5 c = λ h. absurd (omega (arith, h))
+returns-5 c = λ h. (quiet-here (c .before .before .before .before .before .before .before .before .before .args .r .now) _ _ _ (c .before .before .before .before .is-user .ensures) (c .before .before .before .is-virtual .ensures) refl _ _ _ (c .before .before .fetch-place .ensures) (c .before .if3 .left), (c .before .before .before .before .before .before .before .if1 .left), omega (arith, (c .before .before .before .before .before .before .if2 .left)), search needs, (c .if4 .left))
 
 pub text-place-spec : {M : Type 1} → statement M
 text-place-spec =
     tie.close
     (tie.spec
+    returns
+    returns-2
     element-copy-out-fetch-place
     is-user-requires
     is-virtual-requires
     fetch-place-requires
-    add-if4
-    returns
-    returns-2
     returns-3
+    add-if4
     returns-4
     returns-5)
