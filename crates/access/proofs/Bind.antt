@@ -8,7 +8,7 @@ use lib.Dec.{eqb}
 use Rattle.memory.specs.Answers.{Answer, answerOf}
 use Rattle.memory.proofs.AnswerLaws.{answer-low, answer-high}
 use Rattle.program.specs.Access.{Access, fetch, read, write, Gave, gave}
-use Rattle.program.specs.Program.{Program, interpret, after}
+use Rattle.program.specs.Program.{Program, interpret}
 use Rattle.program.specs.Journal.{Journaled, logging}
 use Rattle.program.proofs.Interpret.{interpret-after}
 use Rattle.word.specs.declared.Width.the-variants.{Word}

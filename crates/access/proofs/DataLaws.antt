@@ -23,7 +23,8 @@ use Rattle.access.specs.Parts.{Out, stop, onward, _>>=_, done, replied, 
 use Rattle.access.specs.Data.{isAligned, readCached, readMemory, readData, writeCached, writeMemory, writeData}
 use Rattle.access.specs.Code.{wrote}
 
-fits-aligned : (w : Width) (a : ℕ) → fitsWidth w a ≡ isAligned w a
+-- the code's test of alignment
+pub fits-aligned : (w : Width) (a : ℕ) → fitsWidth w a ≡ isAligned w a
 fits-aligned Byte a = sym (eq-eqb (a % 1) 0 (omega arith))
 fits-aligned Half a = refl
 fits-aligned Word a = refl

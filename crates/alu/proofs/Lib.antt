@@ -1,4 +1,3 @@
-pub mod Laws
 pub mod ModeLaws
 pub mod PswLaws
 pub mod ResultLaws

@@ -10,8 +10,7 @@ use Rattle.bits.specs.Bits.{bitOf}
 use Rattle.isa.specs.declared.Mode.{Mode}
 use Rattle.isa.specs.declared.Wide.{Wide}
 use Rattle.isa.specs.declared.Wide.the-variants.{Three}
-use Rattle.exec.specs.Operands.{widthOf, isSigned, expanded}
-use Rattle.alu.specs.Modes.{absoluteOn}
+use Rattle.exec.specs.Operands.{widthOf, isSigned, expanded, absoluteOn}
 
 pub expanded-signed : (m : Mode) (w : Width) (x r : ℕ) (t : Bool) → t ≡ isSigned m → t ≡ true → w ≡ widthOf m
     → r ≡ signExtendOf (bitsOf w) x → r ≡ expanded m x

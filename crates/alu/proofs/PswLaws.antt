@@ -2,13 +2,13 @@
 -- Assumes nothing.
 use mathlib.Core.Path.{_≡_}
 use mathlib.Core.Bool.{Bool, true, false, not}
-use Prim.Native.Nat.{ℕ, _-_, _*_, _%_, _^_, _≤_, _<_}
+use Prim.Native.Nat.{ℕ, _-_, _*_, _/_, _%_, _^_, _≤_, _<_}
 use native.Mathlib.Nat.{one-mul, zero-mul, add-mul}
 use native.Mathlib.Omega.{arith}
 use Rattle.bits.specs.Bits.{bitOf, setOf}
 use Rattle.bits.proofs.Laws.{shl-one}
 use Rattle.exec.specs.Alu.{digit, withBitAs, flagBit}
-use Rattle.alu.specs.Status.{testedOf}
+use Rattle.exec.specs.Control.{testedOf}
 
 -- the bit set is at least what is taken off
 taken-at : (x n : ℕ) (b : Bool) → n < 32 → digit (not b) * 2 ^ n % 2 ^ 32 ≤ setOf x n
@@ -16,8 +16,10 @@ taken-at x n true h = rw (zero-mul (2 ^ n)) (omega arith)
 taken-at x n false h = rw (shl-one n h, add-mul) (omega (arith, one-mul (2 ^ n)))
 
 laid-at : (x n : ℕ) (b : Bool) → n < 32 → setOf x n - digit (not b) * 2 ^ n % 2 ^ 32 ≡ withBitAs n b x
-laid-at x n true h = rw (zero-mul (2 ^ n), add-mul) (omega arith)
-laid-at x n false h = rw (shl-one n h, add-mul) (omega (arith, one-mul (2 ^ n), zero-mul (2 ^ n)))
+laid-at x n true h = rw (zero-mul (2 ^ n)) (omega arith)
+laid-at x n false h =
+    rw (shl-one n h)
+    (omega (arith, add-mul (x / 2 ^ n / 2 * 2) 1 (2 ^ n), add-mul (x / 2 ^ n / 2 * 2) 0 (2 ^ n), one-mul (2 ^ n), zero-mul (2 ^ n)))
 
 pub taken-fits : (x n d y : ℕ) (b : Bool) → d ≡ digit (not b) → y ≡ setOf x (n % 32) → d * 2 ^ (n % 32) % 2 ^ 32 ≤ y
 taken-fits x n d y b e f = rw (e, f) (taken-at x (n % 32) b (omega arith))

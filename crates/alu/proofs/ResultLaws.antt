@@ -2,7 +2,7 @@
 -- Assumes nothing.
 use mathlib.Core.Path.{_≡_, refl, ap, _∙_}
 use mathlib.Core.Bool.{Bool, true, false}
-use Prim.Native.Nat.{ℕ, _+_, _-_, _*_, _/_, _%_, _^_, _<_}
+use Prim.Native.Nat.{ℕ, _+_, _*_, _/_, _%_, _^_, _<_}
 use native.Mathlib.Omega.{arith}
 use borrow.Author.Tests.{ne-eqb}
 use lib.Bits.{bitAnd, and-mask}
@@ -15,7 +15,8 @@ use Rattle.exec.specs.declared.Relation.{Relation}
 use Rattle.word.specs.Tags.{taggedAddOf, taggedSubOf}
 use Rattle.bits.specs.Bits.{bitOf}
 use Rattle.exec.specs.Alu.{stays, gets, digit, flagged, withBitAs, carryBit, overflowBit, flagBit, operate, related}
-use Rattle.alu.specs.Results.{flagFrom, result, unpacked, laidOver, taggedWith, taggedOver}
+use Rattle.alu.specs.Results.{flagFrom, result, unpacked, laidOver}
+use Rattle.exec.specs.Dyadic.{taggedWith, taggedOver}
 
 low-code : (c o : ℕ) → c < 4 → (c + o * 4) % 4 ≡ c
 low-code c o h = omega arith

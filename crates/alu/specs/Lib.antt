@@ -1,3 +1,2 @@
 pub mod Modes
 pub mod Results
-pub mod Status

@@ -8,8 +8,8 @@ use word::Width;
 use word::sums::plus;
 use word::widths::sign_extend;
 ghost use mathlib.Core.Path.{_≡_};
-ghost use Rattle.exec.specs.Operands.{widthOf, isSigned, kindOf, expanded};
-ghost use Rattle.alu.specs.Modes.{kindFrom, absoluteOn};
+ghost use Rattle.exec.specs.Operands.{widthOf, isSigned, kindOf, expanded, absoluteOn};
+ghost use Rattle.alu.specs.Modes.{kindFrom};
 
 // The width of a mode's operand.
 pub fn width_of(m: Mode) -> Width

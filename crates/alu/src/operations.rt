@@ -24,7 +24,8 @@ use word::tags::tagged_add;
 use word::tags::tagged_sub;
 ghost use mathlib.Core.Path.{_≡_};
 ghost use Rattle.exec.specs.Alu.{operate as operateOf, divides as dividesOf, related as relatedOf};
-ghost use Rattle.alu.specs.Results.{unpacked, taggedWith, taggedOver};
+ghost use Rattle.alu.specs.Results.{unpacked};
+ghost use Rattle.exec.specs.Dyadic.{taggedWith, taggedOver};
 
 // An operation on destination d and source s: the value and the flags it sets, packed.
 pub fn operate(op: Operation, d: u32, s: u32) -> u64

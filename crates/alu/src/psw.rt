@@ -6,7 +6,7 @@ ghost use mathlib.Core.Path.{_≡_};
 ghost use Prim.Native.Nat.{_*_, _/_, _%_, _^_};
 ghost use Rattle.bits.specs.Bits.{bitOf};
 ghost use Rattle.exec.specs.Alu.{digit as digitOf, withBitAs, flagBit};
-ghost use Rattle.alu.specs.Status.{testedOf};
+ghost use Rattle.exec.specs.Control.{testedOf};
 
 // A flag as a digit.
 pub fn digit(b: bool) -> u32

@@ -27,7 +27,7 @@ use Rattle.rows.specs.declared.Action.the-variants.{Two, One, Zero}
 use Rattle.rows.specs.Rows.{actionOf}
 use Rattle.access.proofs.PartLaws.{ended-goes, ended-stops}
 use Rattle.control.proofs.Ways.{finished}
-use Rattle.control.proofs.FlowLaws.{Made}
+use Rattle.machine.proofs.BankLaws.{Made}
 
 -- two operands: a is the bank after them, z with PC on
 module _ (b : Bank) (q : Cache) (n : ℕ) (w : Wide) (k : Task) (s d : Operand) (x : ℕ) (a : Bank) (p : Cache) (t u : Journaled)

@@ -11,9 +11,13 @@ fieldOf x low count = x / 2 ^ low % 2 ^ count
 abbrev pub bitOf : ℕ → ℕ → Bool
 bitOf x n = eqb (x / 2 ^ n % 2) 1
 
+-- x with the digit d at bit n
+abbrev pub putOf : ℕ → ℕ → ℕ → ℕ
+putOf x n d = (x / 2 ^ n / 2 * 2 + d) * 2 ^ n + x % 2 ^ n
+
 -- x with bit n set
 abbrev pub setOf : ℕ → ℕ → ℕ
-setOf x n = (x / 2 ^ n / 2 * 2 + 1) * 2 ^ n + x % 2 ^ n
+setOf x n = putOf x n 1
 
 -- a word of two halves
 abbrev pub joinedOf : ℕ → ℕ → ℕ

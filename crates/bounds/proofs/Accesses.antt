@@ -19,7 +19,7 @@ use Rattle.machine.proofs.CacheLaws.{read-lt}
 use Rattle.machine.specs.Status.{Cpu, with, cached, regime, kernelRegime}
 use Rattle.access.specs.Parts.{faulted, replied, request, frameRequest, frameReplied}
 use Rattle.access.specs.Data.{place, isAligned, readCached, readMemory, readData, writeCached, writeMemory, writeData, readFrame, writeFrame, checkStore}
-use Rattle.bounds.proofs.Within.{Any}
+use Rattle.program.proofs.Bounded.{Any}
 use Rattle.bounds.proofs.Rules.{Rules, Answers, Value, Ends, Part, bind, gives, stops, either, some}
 
 -- ---- words

@@ -4,6 +4,7 @@ use Prim.Native.Nat.{ℕ, _-_, _/_, _%_, _^_, _<_}
 use mathlib.Core.Bool.{Bool, true, false, cond}
 use native.Mathlib.Omega.{arith}
 use lib.Dec.{ltb, eqb, lit<}
+use Rattle.laws.proofs.Cases.{either}
 use Rattle.word.proofs.WidthLaws.{sign-extend-lt}
 use Rattle.isa.specs.declared.ShortRow.{ShortRow}
 use Rattle.isa.specs.declared.ShortRow.the-variants as short
@@ -63,10 +64,6 @@ field-word Imm10 p = omega arith
 field-word Pcrel10 p = sign-extend-lt 11 _ (omega arith)
 field-word Stk8 p = omega arith
 field-word Fill8 p = omega arith
-
-if-fits : (b : Bool) (x y : Answer) → AnswerFits x → AnswerFits y → AnswerFits (cond b x y)
-if-fits true x y f g = f
-if-fits false x y f g = g
 
 short-fits : (r : ShortRow) (s d : ℕ) → s < 2 ^ 32 → NormalFits (shortNormal r s d)
 short-fits short.Kcall s d h = h
@@ -160,8 +157,8 @@ found-fits w mode.Register x h = tt
 found-fits w mode.Unlisted x h = tt
 
 dyadic-answer : (e : DyadicEntry) (w : Wide) (pre : Bool) (s d : Operand) → OperandFits w s → OperandFits w d → AnswerFits (dyadicAnswer e w pre s d)
-dyadic-answer (wide.Row r u) w pre s d f g = if-fits (legalOf u s d) _ Illegal (f, g) tt
-dyadic-answer wide.Unimplemented w pre s d f g = if-fits (legalOf OneRegister s d) Unimplemented Illegal tt tt
+dyadic-answer (wide.Row r u) w pre s d f g = either AnswerFits (legalOf u s d) _ Illegal (f, g) tt
+dyadic-answer wide.Unimplemented w pre s d f g = either AnswerFits (legalOf OneRegister s d) Unimplemented Illegal tt tt
 dyadic-answer wide.Unlisted w pre s d f g = tt
 
 both-answer : (e : DyadicEntry) (w : Wide) (pre : Bool) (s d : OperandFound) → FoundFits w s → FoundFits w d → AnswerFits (bothFound e w pre s d)
@@ -180,12 +177,12 @@ dyadic-fits w pre p x y f g =
 -- ---- monadics
 
 monadic-found : (r : MonadicRow) (u : MonadicRule) (pre : Bool) (e : MonadicModeEntry) (v : ℕ) → v < 2 ^ 32 → AnswerFits (monadicFound r u pre e v)
-monadic-found r u pre (place.Is m) v h = if-fits (monadicLegalOf u m v) _ Illegal h tt
+monadic-found r u pre (place.Is m) v h = either AnswerFits (monadicLegalOf u m v) _ Illegal h tt
 monadic-found r u pre place.Unlisted v h = tt
 
 monadic-answer : (e : MonadicEntry) (pre : Bool) (n v : ℕ) → v < 2 ^ 32 → AnswerFits (monadicAnswer e pre n v)
 monadic-answer (single.Row r u) pre n v h = monadic-found r u pre (monadicModeOf u n) v h
-monadic-answer single.Unimplemented pre n v h = if-fits (ltb n 0xC) Illegal Unimplemented tt tt
+monadic-answer single.Unimplemented pre n v h = either AnswerFits (ltb n 0xC) Illegal Unimplemented tt tt
 monadic-answer single.Unlisted pre n v h = tt
 
 -- ---- the length
@@ -196,23 +193,23 @@ joined-value a b f g = omega arith
 three : (pre : Bool) (p a b : ℕ) → a < 2 ^ 16 → b < 2 ^ 16 → AnswerFits (decodeThree pre p a b)
 unfolding decodeThree decodeMonadic
 three pre p a b f g =
-    if-fits (eqb (p / 256 % 64) 0) (decodeMonadic pre p (joined a b)) (decodeDyadic Three pre p a b)
+    either AnswerFits (eqb (p / 256 % 64) 0) (decodeMonadic pre p (joined a b)) (decodeDyadic Three pre p a b)
     (monadic-answer (monadicOf (p % 16)) pre (p / 16 % 16) (joined a b) (joined-value a b f g)) (dyadic-fits Three pre p a b f g)
 
 wide-fits : (pre : Bool) (n p a b c d : ℕ) → a < 2 ^ 16 → b < 2 ^ 16 → c < 2 ^ 16 → d < 2 ^ 16 → AnswerFits (decodeWide pre n p a b c d)
 unfolding decodeWide
 wide-fits pre n p a b c d fa fb fc fd =
-    if-fits (ltb p 0xC000) (cond (ltb n 2) (Refused cutText) (decodeThree pre p a b))
+    either AnswerFits (ltb p 0xC000) (cond (ltb n 2) (Refused cutText) (decodeThree pre p a b))
     (cond (ltb n 4) (Refused cutText) (decodeDyadic Five pre p (joined a b) (joined c d)))
-    (if-fits (ltb n 2) (Refused cutText) (decodeThree pre p a b) tt (three pre p a b fa fb))
-    (if-fits (ltb n 4) (Refused cutText) (decodeDyadic Five pre p (joined a b) (joined c d)) tt
+    (either AnswerFits (ltb n 2) (Refused cutText) (decodeThree pre p a b) tt (three pre p a b fa fb))
+    (either AnswerFits (ltb n 4) (Refused cutText) (decodeDyadic Five pre p (joined a b) (joined c d)) tt
     (dyadic-fits Five pre p (joined a b) (joined c d) (joined-value a b fa fb) (joined-value c d fc fd)))
 
 prefixed-fits : (t : Text) → TextFits t → AnswerFits (decodePrefixed t)
 unfolding decodePrefixed
 prefixed-fits t f =
-    if-fits (ltb (t .count) 2) (Refused cutText) (cond (ltb (t .p1) 0x8000) Illegal after) tt
-    (if-fits (ltb (t .p1) 0x8000) Illegal after tt (wide-fits true (t .count - 2) (t .p1) (t .p2) (t .p3) (t .p4) (t .p5) (f .p2) (f .p3) (f .p4) (f .p5)))
+    either AnswerFits (ltb (t .count) 2) (Refused cutText) (cond (ltb (t .p1) 0x8000) Illegal after) tt
+    (either AnswerFits (ltb (t .p1) 0x8000) Illegal after tt (wide-fits true (t .count - 2) (t .p1) (t .p2) (t .p3) (t .p4) (t .p5) (f .p2) (f .p3) (f .p4) (f .p5)))
   where
     after : Answer
     after = decodeWide true (t .count - 2) (t .p1) (t .p2) (t .p3) (t .p4) (t .p5)
@@ -220,12 +217,12 @@ prefixed-fits t f =
 bare-fits : (t : Text) → TextFits t → AnswerFits (decodeBare t)
 unfolding decodeBare decodeShort
 bare-fits t f =
-    if-fits (ltb (t .p0) 0x8000) (decodeShort (t .p0)) (decodeWide false (t .count - 1) (t .p0) (t .p1) (t .p2) (t .p3) (t .p4))
+    either AnswerFits (ltb (t .p0) 0x8000) (decodeShort (t .p0)) (decodeWide false (t .count - 1) (t .p0) (t .p1) (t .p2) (t .p3) (t .p4))
     (short-answer (shortEntry (shortOf (t .p0 / 1024 % 32)) (t .p0)) (t .p0))
     (wide-fits false (t .count - 1) (t .p0) (t .p1) (t .p2) (t .p3) (t .p4) (f .p1) (f .p2) (f .p3) (f .p4))
 
 pub decode-fits : (t : Text) → TextFits t → AnswerFits (decodeOf t)
 unfolding decodeOf
 decode-fits t f =
-    if-fits (ltb (t .count) 1) (Refused cutText) (cond (eqb (t .p0) cpuPrefix) (decodePrefixed t) (decodeBare t)) tt
-    (if-fits (eqb (t .p0) cpuPrefix) (decodePrefixed t) (decodeBare t) (prefixed-fits t f) (bare-fits t f))
+    either AnswerFits (ltb (t .count) 1) (Refused cutText) (cond (eqb (t .p0) cpuPrefix) (decodePrefixed t) (decodeBare t)) tt
+    (either AnswerFits (eqb (t .p0) cpuPrefix) (decodePrefixed t) (decodeBare t) (prefixed-fits t f) (bare-fits t f))

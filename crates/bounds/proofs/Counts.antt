@@ -2,11 +2,10 @@
 -- Assumes nothing.
 use Prim.Native.Nat.{ℕ}
 use Rattle.program.specs.Program.{Program}
-use Rattle.program.proofs.Bounded.{Bounded}
+use Rattle.program.proofs.Bounded.{Bounded, Any, Within, within-weaker, within-bounded}
 use Rattle.machine.specs.Status.{Cpu}
 use Rattle.step.specs.Step.{step}
 use Rattle.run.specs.Run.{confinedAttempt}
-use Rattle.bounds.proofs.Within.{Any, Within, within-weaker, within-bounded}
 use Rattle.bounds.proofs.Rules.{Rules, Answers}
 use Rattle.bounds.proofs.Steps.{SteppedHolds, Leaves, step-part, confined-part}
 

@@ -3,7 +3,7 @@
 use Prim.Native.Nat.{ℕ, _+_, _-_, _*_, _/_, _%_, _^_, _<_}
 use mathlib.Core.Path.{_≡_, refl, sym, ap, _∙_}
 use mathlib.Core.Bool.{Bool, true, false, not}
-use native.Mathlib.Nat.{mod-lt, add-mul, div-lt-iff-lt-mul}
+use native.Mathlib.Nat.{mod-lt, div-lt-iff-lt-mul}
 use native.Mathlib.Omega.{arith}
 use native.Mathlib.Decide.{decLt, ℕ-discrete}
 use lib.Dec.{T, T-not, eqb}
@@ -18,17 +18,14 @@ digit-lt false = omega arith
 
 module _ (n : ℕ) (b : Bool) (x : ℕ) where
   -- the parts above and below the bit
-  grouped : withBitAs n b x ≡ (x / 2 ^ n / 2 * 2 + digit b) * 2 ^ n + x % 2 ^ n
-  grouped = ap (λ (y : ℕ). y + x % 2 ^ n) (sym (add-mul (x / 2 ^ n / 2 * 2) (digit b) (2 ^ n)))
-
   rest : x % 2 ^ n < 2 ^ n
   rest = mod-lt x (pow-pos n)
 
   same-below : withBitAs n b x % 2 ^ n ≡ x % 2 ^ n
-  same-below = ap (λ (y : ℕ). y % 2 ^ n) grouped ∙ low (x / 2 ^ n / 2 * 2 + digit b) n rest
+  same-below = low (x / 2 ^ n / 2 * 2 + digit b) n rest
 
   same-above : withBitAs n b x / 2 ^ n / 2 ≡ x / 2 ^ n / 2
-  same-above = ap (λ (y : ℕ). y / 2 ^ n / 2) grouped ∙ ap (λ (y : ℕ). y / 2) (high (x / 2 ^ n / 2 * 2 + digit b) n rest) ∙ omega (arith, digit-lt b)
+  same-above = ap (λ (y : ℕ). y / 2) (high (x / 2 ^ n / 2 * 2 + digit b) n rest) ∙ omega (arith, digit-lt b)
 
   -- a lower bit, and a higher one
   lower : (y k j : ℕ) → n ≡ j + (1 + k) → y / 2 ^ k % 2 ≡ y % 2 ^ n % 2 ^ (1 + k) / 2 ^ k

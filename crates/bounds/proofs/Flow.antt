@@ -11,7 +11,7 @@ use Rattle.machine.specs.Registers.{pc, psw, msp, shad, sp, isp}
 use Rattle.machine.specs.Status.{Cpu, reg, with, csp, spCurrent, cacheOn}
 use Rattle.exec.specs.Alu.{flagBit, pswBit}
 use Rattle.exec.specs.Operands.{stackAddress}
-use Rattle.exec.specs.Control.{jumped, advanced, readWord32, jump, jumpIf, call, loadAddress, withCsp, released, return, testBit, guardBit, withGuard}
+use Rattle.exec.specs.Control.{jumped, advanced, readWord32, jump, jumpIf, call, loadAddress, withCsp, released, return, testBit, guardBit, withGuard, callTo, loadAccumulator, readThrough}
 use Rattle.bounds.proofs.Rules.{Rules, Value, Part, bind, more, gives, either, isFlag}
 use Rattle.bounds.proofs.Flags.{alike-same, alike-bit}
 use Rattle.bounds.proofs.Accesses.{plus-value, read-data, write-data}
@@ -59,7 +59,7 @@ module _ (k : Rules) where
   -- ---- instructions
 
   pub word-operand : (c : Cpu) (m : MonadicMode) (v : ℕ) → k .Holds c → Value k v → Part k (Value k) 2 (readWord32 c m v)
-  unfolding readWord32
+  unfolding readWord32 readThrough
   word-operand c WordAbsolute v h f = more 2 (omega arith) (read-data k c Word v h f)
   word-operand c WordStack v h f = more 2 (omega arith) (read-data k c Word (stackAddress c v) h (plus-value k _ v))
   word-operand c WordIndirect v h f = bind (read-data k c Word (stackAddress c v) h (plus-value k _ v)) λ a g. read-data k c Word a h g
@@ -78,13 +78,13 @@ module _ (k : Rules) where
   jump-if-part b c m v n h f = either b (λ _. jump-part c m v h f) (λ _. gives (advanced-holds c n h))
 
   pub call-part : (c : Cpu) (m : MonadicMode) (v n : ℕ) → k .Holds c → Value k v → Part k (k .Holds) 3 (call c m v n)
-  unfolding call
+  unfolding call callTo
   call-part c m v n h f =
       bind (word-operand c m v h f) λ a g.
       bind (write-data k c Word (reg c (csp (c .bank))) _ h (k .words c _ h)) λ d e. gives {n = 0} (jumped-holds d a e g)
 
   pub load-address-part : (c : Cpu) (m : MonadicMode) (v n : ℕ) → k .Holds c → Value k v → Part k (k .Holds) 3 (loadAddress c m v n)
-  unfolding loadAddress
+  unfolding loadAddress loadAccumulator
   load-address-part c m v n h f =
       bind (word-operand c m v h f) λ a g.
       bind (write-accumulator k c a h) λ d e. gives {n = 0} (advanced-holds d n e)

@@ -12,7 +12,7 @@ use Rattle.machine.specs.Registers.{config, isp, msp, pc, psw, shad, sp, traceD
 use Rattle.machine.specs.Status.{Cpu, reg, with, spCurrent, isUser}
 use Rattle.access.specs.Parts.{Out}
 use Rattle.exec.specs.Control.{jumped, nextPc}
-use Rattle.exec.specs.Frames.{pushPair, pushFrame, throughVector, kcallVector, exceptionVector, restoredCsp, kcall, interruptSequence, exceptionSequence, storePc, unimplementedSequence, returned, kret, restoredRegime, cretFill, cret, privileged, reset}
+use Rattle.exec.specs.Frames.{pushPair, pushFrame, throughVector, kcallVector, exceptionVector, restoredCsp, kcall, interruptSequence, exceptionSequence, storePc, unimplementedSequence, returned, kret, restoredRegime, cretFill, cret, privileged, reset, cretAfter, cretCaught, cretFrom}
 use Rattle.bounds.proofs.Rules.{suits, Rules, Value, Part, bind, gives, stops, either}
 use Rattle.bounds.proofs.Accesses.{plus-value, minus-value, read-frame, write-frame, write-data}
 use Rattle.bounds.proofs.Operands.{kept-word}
@@ -87,7 +87,7 @@ module _ (k : Rules) (free : k .Free) where
   kret-part c h = bind (read-frame k c _ free h) λ a f. bind (read-frame k c _ free h) λ p _. gives {n = 0} (returned-holds c a p h f)
 
   cret-fill : (c : Cpu) (m p : ℕ) → k .Holds c → Part k (k .Holds) 65 (cretFill c m p)
-  unfolding cretFill
+  unfolding cretFill cretCaught
   cret-fill c m p h =
       either (bitOf p 9)
       (λ _. either (bitOf (reg c config) 18)
@@ -99,7 +99,7 @@ module _ (k : Rules) (free : k .Free) where
       topped d g = k .plain d msp _ tt g (λ _. kept-word msp m)
 
   pub cret-part : (c : Cpu) → k .Holds c → Part k (k .Holds) 69 (cret c)
-  unfolding cret
+  unfolding cret cretAfter cretFrom
   cret-part c h =
       bind (read-frame k c _ free h) λ s _.
       bind (read-frame k c _ free h) λ m _.

@@ -11,14 +11,13 @@ use lib.Seq.{getD-set-other}
 use Rattle.bits.specs.Bits.{bitOf}
 use Rattle.mmu.specs.declared.Regime.{Regime}
 use Rattle.program.specs.Access.{regimeOf}
-use Rattle.program.proofs.Bounded.{Bounded, bounded-more}
+use Rattle.program.proofs.Bounded.{Any, Bounded, within-more, within-bounded}
 use Rattle.machine.specs.Registers.{Bank, word, psw, stb}
 use Rattle.machine.specs.Status.{Cpu, isUser, isVirtual, regime}
 use Rattle.access.specs.Parts.{Out}
 use Rattle.step.specs.Events.{looked}
 use Rattle.step.specs.Step.{traceFalls, stepped, timed}
 use Rattle.run.specs.Run.{Tried, confinedAttempt}
-use Rattle.bounds.proofs.Within.{within-bounded}
 use Rattle.bounds.proofs.Rules.{Rules, Answers, Alike, plainly}
 use Rattle.bounds.proofs.Steps.{Leaves, looked-holds, trace-holds, timed-holds, confined-part}
 
@@ -87,4 +86,4 @@ module _ (c : Cpu) (u : isUser (c .bank) ≡ true) where
 -- as isolation asks for it
 pub user-fixed-most : (c : Cpu) → isUser (c .bank) ≡ true → isVirtual (c .bank) ≡ true
     → Bounded (λ q. regimeOf q ≡ regime (c .bank)) (InRegime (regime (c .bank))) 100 (confinedAttempt c)
-user-fixed-most c u v = bounded-more _ (InRegime (regime (c .bank))) 75 100 (confinedAttempt c) (omega arith) (user-fixed c u)
+user-fixed-most c u v = within-more _ (λ q. Any) (InRegime (regime (c .bank))) 75 100 (confinedAttempt c) (omega arith) (user-fixed c u)

@@ -1,4 +1,3 @@
-pub mod Within
 pub mod Rules
 pub mod Flags
 pub mod Accesses

@@ -17,7 +17,7 @@ use Rattle.program.proofs.Bytes.{Bytes, number-lt, stored-bytes, noted-bytes}
 use Rattle.machine.specs.Status.{Cpu}
 use Rattle.step.specs.Step.{step}
 use Rattle.run.specs.Run.{confinedAttempt}
-use Rattle.bounds.proofs.Within.{interpret-keeps}
+use Rattle.program.proofs.Bounded.{interpret-keeps}
 use Rattle.bounds.proofs.Steps.{Leaves}
 use Rattle.bounds.proofs.Rules.{Sized}
 use Rattle.bounds.proofs.Words.{Worded, Answering, step-worded, confined-worded}

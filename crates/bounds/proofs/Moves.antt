@@ -13,7 +13,7 @@ use Rattle.machine.specs.Cache.{cacheWord}
 use Rattle.machine.specs.Status.{Cpu, reg, regime}
 use Rattle.access.specs.Moves.{flushWord, flushQuad, mayFlush, flush, fillWord, filled, fillQuad, mayFill, fill}
 use Rattle.bounds.proofs.Accesses.{plus-value, minus-value, request-part}
-use Rattle.bounds.proofs.Within.{Any}
+use Rattle.program.proofs.Bounded.{Any}
 use Rattle.bounds.proofs.Rules.{Rules, Value, Part, bind, more, gives, either, some}
 
 module _ (k : Rules) where

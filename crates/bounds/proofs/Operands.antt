@@ -9,6 +9,7 @@ use native.Mathlib.Omega.{arith}
 use lib.Dec.{T, eqb, ltb, leb, leb→le}
 use lib.ListN.{getD}
 use lib.Pow.{pow-pos, pow-mono, shl-lt}
+use Rattle.laws.proofs.Cases.{or-left, or-right}
 use Rattle.bits.specs.Bits.{bitOf}
 use Rattle.word.specs.declared.Width.the-variants.{Word}
 use Rattle.isa.specs.declared.Mode.{Mode}
@@ -21,7 +22,7 @@ use Rattle.machine.specs.Registers.{config, id, isp, pc, msp, shad, sp, lowBits
 use Rattle.machine.specs.Status.{Cpu, reg, with, csp, isUser}
 use Rattle.word.specs.Sums.{plusOf}
 use Rattle.exec.specs.Operands.{Kind, absolute, offset, indirect, constant, kindOf, widthOf, absoluteAddress, stackAddress, Place, inMemory, inRegister, literal, located, locate, readPlace, readOperand, shadowed, writeRegister, writePlace, writeAccumulator, missing, checkRegisters}
-use Rattle.bounds.proofs.Within.{Any}
+use Rattle.program.proofs.Bounded.{Any}
 use Rattle.bounds.proofs.Rules.{Rules, Value, Part, bind, gives, stops, either}
 use Rattle.bounds.proofs.Accesses.{plus-value, read-data, write-data}
 
@@ -54,18 +55,14 @@ kept-word k v =
 
 -- ---- a register that is not missing is one of the bank's thirteen
 
-or-left : (a b : Bool) → T a → T (a || b)
-or-left true b t = tt
-or-left false b t = absurd t
+or-holds : (a b : Bool) → T a → T (a || b)
+or-holds true b t = tt
+or-holds false b t = absurd t
 
 first : (a b : Bool) → T (a || b) → b ≡ false → T a
 first true b t e = tt
 first false true t e = absurd (true≢false e)
 first false false t e = t
-
-neither : (a b : Bool) → (a || b) ≡ false → (a ≡ false) × (b ≡ false)
-neither true b e = absurd (true≢false e)
-neither false b e = (refl, e)
 
 abbrev registers : List ℕ → Bool
 registers [] = true
@@ -153,7 +150,7 @@ module _ (k : Rules) where
       go true y z = h
       go false true z = shadow-holds _ sp _ stack (λ _. kept-word sp v)
       go false false true = shadow-holds _ isp _ (k .plain c isp _ tt h (λ _. kept-word isp v)) (λ _. kept-word isp v)
-      go false false false = k .register c r (kept r v) (or-left (ltb r traceDue) (leb (kept r v) 1) (f .1)) (f .0) h (λ _. kept-word r v)
+      go false false false = k .register c r (kept r v) (or-holds (ltb r traceDue) (leb (kept r v) 1) (f .1)) (f .0) h (λ _. kept-word r v)
 
   pub write-place : (c : Cpu) (p : Place) (v : ℕ) → k .Holds c → PlaceFits k p → Part k (k .Holds) 1 (writePlace c p v)
   unfolding writePlace
@@ -171,7 +168,7 @@ module _ (k : Rules) where
   check-registers c s d h =
       either (isUser (c .bank) && (isRegister s || isRegister d)) (λ _. stops h)
       (λ e. either (missing s || missing d) (λ _. stops h)
-      (λ m. gives (h, go s d e (neither (missing s) (missing d) m .0) (neither (missing s) (missing d) m .1))))
+      (λ m. gives (h, go s d e (or-left (missing s) (missing d) m) (or-right (missing s) (missing d) m))))
     where
       level : (b : Bool) → (b && true) ≡ false → b ≡ false
       level true e = e

@@ -17,7 +17,7 @@ use Rattle.machine.specs.Registers.{psw, stb, traceDue}
 use Rattle.machine.specs.Cache.{cacheWrite}
 use Rattle.machine.specs.Status.{Cpu, cpu, reg, with, isUser, regime}
 use Rattle.access.specs.Parts.{Out, ok, stop, onward, _>>=_, done}
-use Rattle.bounds.proofs.Within.{Within, within-more, within-after, within-weaker}
+use Rattle.program.proofs.Bounded.{Within, within-more, within-after, within-weaker}
 
 -- what may stand at a place of the bank: a word in a register, 1 or 0 where something is due
 abbrev pub suits : ℕ → ℕ → Bool

@@ -7,7 +7,7 @@ use native.Mathlib.Omega.{arith}
 use lib.Dec.{T, eqb, ltb, leb, ltb→lt, leb→le}
 use lib.ListN.{set}
 use Rattle.word.specs.Widths.{bytesOf}
-use Rattle.program.proofs.Bounded.{Bounded}
+use Rattle.program.proofs.Bounded.{Bounded, Any, within-bounded}
 use Rattle.machine.specs.Registers.{Bank, psw, stb, traceDue}
 use Rattle.machine.specs.Shapes.{BankShape, CacheShape}
 use Rattle.machine.specs.Status.{Cpu}
@@ -16,7 +16,6 @@ use Rattle.machine.proofs.CacheLaws.{shape-set, shape-write}
 use Rattle.step.specs.Events.{looked}
 use Rattle.step.specs.Step.{traceFalls, Stepped, step, timed}
 use Rattle.run.specs.Run.{confinedAttempt}
-use Rattle.bounds.proofs.Within.{Any, within-bounded}
 use Rattle.bounds.proofs.Rules.{Rules, Answers, suits, plainly}
 use Rattle.bounds.proofs.Steps.{SteppedHolds, Leaves, looked-holds, trace-holds, timed-holds, step-part, confined-part}
 

@@ -17,8 +17,8 @@ use Rattle.machine.specs.Status.{Cpu, reg, with, spCurrent, cacheOn, regime}
 use Rattle.access.specs.Moves.{scsize}
 use Rattle.exec.specs.Operands.{stackAddress}
 use Rattle.exec.specs.Control.{withCsp}
-use Rattle.exec.specs.Stack.{stackTarget, checkMsp, enterPlain, enterUncached, enterEmpty, clipped, enterOffset, enterAt, enter, catchTo, catchCurrent, catch}
-use Rattle.bounds.proofs.Within.{Any}
+use Rattle.exec.specs.Stack.{stackTarget, checkMsp, enterPlain, enterUncached, enterEmpty, clipped, enterOffset, enterAt, enter, catchTo, catchCurrent, catch, enterClipped}
+use Rattle.program.proofs.Bounded.{Any}
 use Rattle.bounds.proofs.Rules.{Rules, Value, Part, bind, more, gives, either, some}
 use Rattle.bounds.proofs.Accesses.{plus-value, read-data, request-part, check-store}
 use Rattle.bounds.proofs.Moves.{Allows, flush-part, fill-part}
@@ -54,7 +54,7 @@ module _ (k : Rules) where
       go false y = k .words c msp h
 
   enter-offset : (c : Cpu) (target : ℕ) → k .Holds c → Value k target → Part k (k .Holds) 66 (enterOffset c target)
-  unfolding enterOffset
+  unfolding enterOffset enterClipped
   enter-offset c target h f =
       bind (flush-part k false target 16 c h) λ d g.
       bind (check-store k d target g f) λ _ _.

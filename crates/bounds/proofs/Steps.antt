@@ -21,7 +21,7 @@ use Rattle.step.specs.Events.{Event, interrupt, timer1, timer2, trace, Due, non
 use Rattle.step.specs.Timers.{counts1, counts2, ticked, counted}
 use Rattle.step.specs.Step.{Met, meets, vectored, met, fetchInstruction, Acted, finished, sequenced, act, attempt, tracesAt, traceFalls, Stepped, stepped, settled, eventStep, exceptionStep, finish, instructionStep, stepFor, step, timed}
 use Rattle.run.specs.Run.{Tried, tried, fetched, isKcall, tryActed, confinedAttempt}
-use Rattle.bounds.proofs.Within.{Within, within-more, within-after, within-weaker}
+use Rattle.program.proofs.Bounded.{Within, within-more, within-after, within-weaker}
 use Rattle.bounds.proofs.Rules.{plainly, Rules, Answers, Ends, Part, bind, more, gives, either}
 use Rattle.bounds.proofs.Accesses.{plus-value}
 use Rattle.bounds.proofs.Texts.{fetch-text}

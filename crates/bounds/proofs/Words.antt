@@ -1,7 +1,6 @@
 -- A step keeps every word of the bank and of the cache below 2 ^ 32, as long as reads are answered by words.
 -- Assumes nothing.
 use Prim.Native.Nat.{ℕ, zero, suc, _/_, _%_, _^_, _<_, _≤_}
-use mathlib.Core.Bool.{Bool}
 use mathlib.Core.List.{List, [], _∷_}
 use native.Mathlib.Omega.{arith}
 use lib.Dec.{lit<}
@@ -16,12 +15,11 @@ use Rattle.machine.specs.Registers.{word, psw}
 use Rattle.machine.specs.Cache.{Cache, cacheWord, cacheWrite}
 use Rattle.machine.specs.Status.{Cpu}
 use Rattle.machine.proofs.Digits.{inserted-lt}
-use Rattle.step.specs.Events.{looked}
-use Rattle.step.specs.Step.{traceFalls, Stepped, step, timed}
+use Rattle.step.specs.Step.{step}
 use Rattle.run.specs.Run.{confinedAttempt}
-use Rattle.bounds.proofs.Within.{Any, within-result}
+use Rattle.program.proofs.Bounded.{Any, within-result}
 use Rattle.bounds.proofs.Rules.{Rules, Sized, Answers}
-use Rattle.bounds.proofs.Steps.{SteppedHolds, Leaves, looked-holds, trace-holds, timed-holds, step-part, confined-part}
+use Rattle.bounds.proofs.Steps.{SteppedHolds, Leaves, step-part, confined-part}
 
 -- every word is one
 pub record Worded (c : Cpu) : Type 0 where
@@ -84,12 +82,3 @@ module _ {W : Type 0} (h : Handler W) (I : W → Type 0) (a : Answering h I) (w 
   pub confined-worded : (c : Cpu) → Worded c → Leaves Worded (interpret h (confinedAttempt c) w .out)
   confined-worded c g =
       within-result Any (Answers worded) h I (Leaves Worded) 75 (confinedAttempt c) w (λ q w i. ((λ _. a q w i .0), a q w i .1)) i (confined-part worded c g)
-
-pub looked-worded : (level : ℕ) (c : Cpu) → Worded c → Worded (looked level c)
-looked-worded level c h = looked-holds worded level c h
-
-pub trace-worded : (b : Bool) (c : Cpu) → Worded c → Worded (traceFalls b c)
-trace-worded b c h = trace-holds worded b c h
-
-pub timed-worded : (c : Cpu) (s : Stepped) → Worded (s .cpu) → Worded (timed c s)
-timed-worded c s h = timed-holds worded c s h

@@ -14,19 +14,15 @@ use Rattle.program.specs.Journal.{Journaled, logging}
 use Rattle.machine.specs.Registers.{Bank, word}
 use Rattle.machine.specs.Cache.{Cache}
 use Rattle.machine.specs.Status.{Cpu, cpu, csp}
+use Rattle.machine.proofs.BankLaws.{Made}
 use Rattle.access.specs.Parts.{Out, done}
 use Rattle.access.specs.Data.{readData, writeData}
 use Rattle.access.specs.Code.{ended}
 use Rattle.access.proofs.PartLaws.{goes, stops-ended, ended-goes, ended-stops}
 use Rattle.exec.specs.Operands.{stackAddress, writeAccumulator}
-use Rattle.exec.specs.Control.{readWord32, jumped, advanced, nextPc, jump, jumpIf, call, loadAddress, released, return}
-use Rattle.control.specs.Code.{callTo, loadAccumulator}
+use Rattle.exec.specs.Control.{readWord32, jumped, advanced, nextPc, jump, jumpIf, call, loadAddress, released, return, callTo, loadAccumulator}
 use Rattle.control.proofs.Ways.{finished}
 use Rattle.control.proofs.WordLaws.{Valued}
-
--- what the registers' code promises: the same of any cache
-abbrev pub Made : Bank → Bank → (Cpu → Cpu) → Type 0
-Made b d f = (p : Cache) → cpu d p ≡ f (cpu b p)
 
 -- ---- after the operand
 

@@ -21,8 +21,7 @@ use Rattle.access.specs.Data.{readData}
 use Rattle.access.specs.Code.{valued}
 use Rattle.access.proofs.PartLaws.{goes, stops-giving}
 use Rattle.exec.specs.Operands.{stackAddress}
-use Rattle.exec.specs.Control.{readWord32}
-use Rattle.control.specs.Code.{readThrough}
+use Rattle.exec.specs.Control.{readWord32, readThrough}
 
 -- what a function that gives a value promises: what it gave, and that the bank stays unless it stopped
 abbrev pub Valued : Bank → Cache → ℕ → Bank → Program (Out ℕ) → Journaled → Journaled → Type 0
@@ -52,16 +51,16 @@ module _ (b : Bank) (q : Cache) (a x : ℕ) (s : Bank) (t u : Journaled) (e : Va
 
 module _ (b : Bank) (q : Cache) (k : MonadicMode) (v x : ℕ) (s : Bank) (t u : Journaled) where
   pub by-absolute : k ≡ WordAbsolute → Valued b q x s (readData (cpu b q) Word v) t u → Valued b q x s (readWord32 (cpu b q) k v) t u
-  unfolding readWord32
+  unfolding readWord32 readThrough
   by-absolute z e = rw z e
 
   pub by-absolute-indirect : k ≡ FlowAbsoluteIndirect → Valued b q x s (readData (cpu b q) Word v) t u → Valued b q x s (readWord32 (cpu b q) k v) t u
-  unfolding readWord32
+  unfolding readWord32 readThrough
   by-absolute-indirect z e = rw z e
 
   module _ (a : ℕ) (ea : a ≡ stackAddress (cpu b []) v) where
     pub by-stack : k ≡ WordStack → Valued b q x s (readData (cpu b q) Word a) t u → Valued b q x s (readWord32 (cpu b q) k v) t u
-    unfolding readWord32
+    unfolding readWord32 readThrough
     by-stack z e = rw (z, ← ea) e
 
     pub by-indirect : k ≡ WordIndirect → Valued b q x s (readThrough (cpu b q) a) t u → Valued b q x s (readWord32 (cpu b q) k v) t u
@@ -69,20 +68,20 @@ module _ (b : Bank) (q : Cache) (k : MonadicMode) (v x : ℕ) (s : Bank) (t u : 
     by-indirect z e = rw (z, ← ea) e
 
     pub by-stack-indirect : k ≡ FlowStackIndirect → Valued b q x s (readData (cpu b q) Word a) t u → Valued b q x s (readWord32 (cpu b q) k v) t u
-    unfolding readWord32
+    unfolding readWord32 readThrough
     by-stack-indirect z e = rw (z, ← ea) e
 
 module _ (b : Bank) (q : Cache) (k : MonadicMode) (v x : ℕ) (t : Journaled) where
   pub by-immediate : k ≡ WordImmediate → answerOf x ≡ got v → Valued b q x b (readWord32 (cpu b q) k v) t t
-  unfolding readWord32 interpret
+  unfolding readWord32 interpret readThrough
   by-immediate z e = rw (z, e) (refl, λ h. refl)
 
   pub by-flow-absolute : k ≡ FlowAbsolute → answerOf x ≡ got v → Valued b q x b (readWord32 (cpu b q) k v) t t
-  unfolding readWord32 interpret
+  unfolding readWord32 interpret readThrough
   by-flow-absolute z e = rw (z, e) (refl, λ h. refl)
 
   pub by-relative : k ≡ FlowRelative → (a : ℕ) → a ≡ plusOf (word b pc) v → answerOf x ≡ got a → Valued b q x b (readWord32 (cpu b q) k v) t t
-  unfolding readWord32 interpret
+  unfolding readWord32 interpret readThrough
   by-relative z a ea e = rw (z, e, ea) (refl, λ h. refl)
 
 -- ---- the current stack pointer

@@ -12,8 +12,7 @@ use isa::MonadicMode;
 use memory::answers::low32;
 use word::Width;
 ghost use Rattle.access.specs.Contracts.{Ends};
-ghost use Rattle.exec.specs.Control.{jump as jumpOf, jumpIf, call as callOf, loadAddress, return as returnOf};
-ghost use Rattle.control.specs.Code.{callTo, loadAccumulator};
+ghost use Rattle.exec.specs.Control.{jump as jumpOf, jumpIf, call as callOf, loadAddress, return as returnOf, callTo, loadAccumulator};
 
 pub fn jump(
     m: &mut [u8],

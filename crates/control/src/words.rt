@@ -11,8 +11,7 @@ ghost use mathlib.Core.Path.{_≡_};
 ghost use Rattle.machine.specs.Registers.{word};
 ghost use Rattle.machine.specs.Status.{csp};
 ghost use Rattle.access.specs.Contracts.{Yields};
-ghost use Rattle.exec.specs.Control.{readWord32};
-ghost use Rattle.control.specs.Code.{readThrough};
+ghost use Rattle.exec.specs.Control.{readWord32, readThrough};
 
 // The word that the word at a points to.
 pub fn read_through(

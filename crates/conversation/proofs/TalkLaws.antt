@@ -1,7 +1,7 @@
 -- A block answered line by line: what is left of it gives what the whole gives.
 -- Assumes nothing.
 use mathlib.Core.Path.{_≡_, refl, sym, ap, _∙_}
-use mathlib.Core.Bool.{Bool, true, false, cond, _&&_}
+use mathlib.Core.Bool.{Bool, true, false, true≢false, cond, _&&_}
 use mathlib.Core.List.{List, [], _∷_}
 use Prim.Native.Nat.{ℕ, suc, _+_, _-_, _%_, _^_, _≤_, _<_}
 use native.Mathlib.Omega.{arith}
@@ -13,9 +13,6 @@ use Rattle.conversation.specs.Conversation.{next}
 use Rattle.conversation.specs.Code.{Desk, toldOf}
 use Rattle.conversation.specs.Blocks.{newlineAt, endsLine, endedLines, isLongRun, LineAnswered, lineAnswered, answeredUnless, together, sizeOf, toldAll, lastOf, talked, blockTold}
 use Rattle.conversation.proofs.BlockLaws.{ended-first, ended-none}
-
-true-not-false : true ≡ false → ⊥
-true-not-false e = omega (arith, ap {B = ℕ} (λ (b : Bool). cond b 1 0) e)
 
 -- the lines before `from` have been put to the desk, the last of them line `last`; the next one ends at `to`
 pub record Talking (t : List ℕ) (n : ℕ) (d₀ d : Desk) (last from : ℕ) (begun : Bool) (to : ℕ) : Type 0 where
@@ -75,11 +72,11 @@ module _ (t : List ℕ) (n : ℕ) (d₀ d : Desk) (last from : ℕ) (begun : Boo
     module _ (k : ℕ) (d′ : Desk) (w : Bool) (a : lineAnswered d′ w ≡ answeredUnless begun k line d) where
       waiting : (b : Bool) → lineAnswered d′ w ≡ cond b (lineAnswered d true) (lineAnswered (toldOf k line d) false) → w ≡ true → (b ≡ true) × (d′ ≡ d)
       waiting true e g = (refl, ap (λ (x : LineAnswered). x .desk) e)
-      waiting false e g = absurd (true-not-false (sym g ∙ ap (λ (x : LineAnswered). x .waits) e))
+      waiting false e g = absurd (true≢false (sym g ∙ ap (λ (x : LineAnswered). x .waits) e))
 
       done : (b : Bool) → lineAnswered d′ w ≡ cond b (lineAnswered d true) (lineAnswered (toldOf k line d) false) → w ≡ false
           → (b ≡ false) × (d′ ≡ toldOf k line d)
-      done true e g = absurd (true-not-false (sym (ap (λ (x : LineAnswered). x .waits) e) ∙ g))
+      done true e g = absurd (true≢false (sym (ap (λ (x : LineAnswered). x .waits) e) ∙ g))
       done false e g = (refl, ap (λ (x : LineAnswered). x .desk) e)
 
       -- the lines that are left, by the test of the first

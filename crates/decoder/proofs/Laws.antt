@@ -9,17 +9,10 @@ use Rattle.isa.specs.declared.Text.{Text}
 use Rattle.isa.specs.declared.Answer.{Answer}
 use Rattle.isa.specs.declared.Answer.the-variants.{Illegal, Refused}
 use Rattle.isa.specs.Refusals.{cutText}
-use Rattle.isa.specs.Decode.{joined, cpuPrefix, decodeShort, decodeDyadic, decodeThree, decodeWide, decodeOf}
+use Rattle.isa.specs.Decode.{joined, cpuPrefix, decodeDyadic, decodeThree, decodeWide, decodeOf}
 use Rattle.decoder.proofs.TextLaws as ways
 
 module _ (t : Text) where
-  pub of-none : t .count < 1 → decodeOf t ≡ Refused cutText
-  of-none h = sym (ways.text-none t h)
-
-  -- without a prefix
-  pub of-short : 1 ≤ t .count → t .p0 < 0x8000 → (t .p0 ≡ cpuPrefix → ⊥) → decodeOf t ≡ decodeShort (t .p0)
-  of-short h k n = sym (ways.text-bare t _ h n (ways.bare-short t _ k refl))
-
   module _ (h : 0x8000 ≤ t .p0) where
     bare : t .p0 ≡ cpuPrefix → ⊥
     bare e = omega arith

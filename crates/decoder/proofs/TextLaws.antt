@@ -9,7 +9,7 @@ use Rattle.isa.specs.declared.Text.{Text}
 use Rattle.isa.specs.declared.Answer.{Answer}
 use Rattle.isa.specs.declared.Answer.the-variants.{Illegal, Refused}
 use Rattle.isa.specs.Refusals.{cutText}
-use Rattle.isa.specs.Decode.{joined, cpuPrefix, decodeShort, decodeDyadic, decodeThree, decodeWide, decodePrefixed, decodeBare, decodeOf}
+use Rattle.isa.specs.Decode.{joined, cpuPrefix, decodeDyadic, decodeThree, decodeWide, decodePrefixed, decodeBare, decodeOf}
 
 module _ (pre : Bool) (n p a b c d : ℕ) where
   pub wide-three-cut : p < 0xC000 → n < 2 → Refused cutText ≡ decodeWide pre n p a b c d
@@ -42,10 +42,6 @@ module _ (t : Text) where
       → r ≡ decodeWide true (t .count - 2) (t .p1) (t .p2) (t .p3) (t .p4) (t .p5) → r ≡ decodePrefixed t
   unfolding decodePrefixed
   prefixed-wide r h k e = simp (le-ltb _ _ h, le-ltb _ _ k) e
-
-  pub bare-short : (r : Answer) → t .p0 < 0x8000 → r ≡ decodeShort (t .p0) → r ≡ decodeBare t
-  unfolding decodeBare
-  bare-short r h e = simp (lt-ltb _ _ h) e
 
   pub bare-wide : (n : ℕ) (r : Answer) → 0x8000 ≤ t .p0 → n ≡ t .count - 1
       → r ≡ decodeWide false n (t .p0) (t .p1) (t .p2) (t .p3) (t .p4) → r ≡ decodeBare t

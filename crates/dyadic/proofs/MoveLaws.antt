@@ -13,9 +13,8 @@ use Rattle.program.specs.Journal.{Journaled, logging}
 use Rattle.machine.specs.Status.{Cpu}
 use Rattle.access.specs.Parts.{Out}
 use Rattle.exec.specs.Operands.{kindOf}
-use Rattle.exec.specs.Dyadic.{placeAddress}
+use Rattle.exec.specs.Dyadic.{placeAddress, moveTo}
 use Rattle.operands.specs.Code.{isConstant, generalAt, placeAt}
-use Rattle.dyadic.specs.Code.{moveTo}
 
 module _ (m : Mode) (v a : ℕ) (k : Bool) (ek : k ≡ isConstant (kindOf m)) where
   pub constant-address : k ≡ true → v ≡ placeAddress (generalAt (kindOf m) m v a)

@@ -17,11 +17,8 @@ use Rattle.machine.specs.Status.{Cpu, cpu, reg}
 use Rattle.access.specs.Parts.{Out, onward, done, _>>=_}
 use Rattle.access.specs.Code.{ended}
 use Rattle.exec.specs.Operands.{Place, inMemory, literal, kindOf, writeRegister, writePlace}
-use Rattle.exec.specs.Dyadic.{taggedFlags, writeTagged, storeTagged, tagged}
-use Rattle.alu.specs.Results.{taggedWith}
-use Rattle.alu.proofs.Laws.{tagged-with}
+use Rattle.exec.specs.Dyadic.{taggedFlags, writeTagged, storeTagged, tagged, putTagged, taggedWith}
 use Rattle.operands.specs.Code.{isConstant, placeAt}
-use Rattle.dyadic.specs.Code.{putTagged}
 use Rattle.operands.proofs.RestLaws.{finished}
 
 -- to memory or a constant: the flags follow the write
@@ -60,4 +57,4 @@ module _ (b : Bank) (q : Cache) (t : Tagged) (p : Place) (j : Journaled) where
 
   pub tagged-by : (minus : Bool) (y x : ℕ) → t ≡ taggedWith minus (reg (cpu b q) psw) y x → (R : Gave Journaled (Out Cpu))
       → R ≡ interpret logging (storeTagged (cpu b q) t p) j → R ≡ interpret logging (storeTagged (cpu b q) (tagged minus (cpu b q) y x) p) j
-  tagged-by minus y x e R f = f ∙ ap (λ (w : Tagged). interpret logging (storeTagged (cpu b q) w p) j) (e ∙ sym (tagged-with minus (cpu b q) y x))
+  tagged-by minus y x e R f = f ∙ ap (λ (w : Tagged). interpret logging (storeTagged (cpu b q) w p) j) e

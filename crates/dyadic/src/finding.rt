@@ -12,7 +12,8 @@ ghost use Rattle.machine.specs.Status.{Cpu};
 ghost use Rattle.access.specs.Parts.{Out};
 ghost use Rattle.exec.specs.Operands.{Place};
 ghost use Rattle.operands.specs.Code.{placeAt, Resumes};
-ghost use Rattle.dyadic.specs.Code.{finding, reading};
+ghost use Rattle.exec.specs.Dyadic.{reading};
+ghost use Rattle.dyadic.specs.Code.{finding};
 
 // The destination's address or an exception, and the source's value.
 pub struct Found {

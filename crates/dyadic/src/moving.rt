@@ -10,9 +10,8 @@ use operands::places::write_at;
 ghost use mathlib.Core.Path.{_≡_};
 ghost use Rattle.access.specs.Contracts.{Ends};
 ghost use Rattle.exec.specs.Operands.{kindOf};
-ghost use Rattle.exec.specs.Dyadic.{move as moveOf, moveAddress, placeAddress};
+ghost use Rattle.exec.specs.Dyadic.{move as moveOf, moveAddress, placeAddress, moveTo};
 ghost use Rattle.operands.specs.Code.{generalAt, placeAt};
-ghost use Rattle.dyadic.specs.Code.{moveTo};
 
 // MOV.
 pub fn move_operand(

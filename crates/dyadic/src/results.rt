@@ -19,7 +19,6 @@ ghost use Rattle.access.specs.Contracts.{Ends};
 ghost use Rattle.exec.specs.Dyadic.{compute as computeOf, accumulate as accumulateOf, interlock as interlockOf, compare as compareOf};
 ghost use Rattle.alu.specs.Results.{unpacked};
 ghost use Rattle.operands.specs.Code.{placeAt};
-ghost use Rattle.dyadic.specs.Code.{putResult, accumulateResult, computeWith, accumulateWith, interlockWith};
 
 // A packed result to the destination found at a.
 fn put_result(

@@ -13,7 +13,6 @@ use word::Tagged;
 ghost use Rattle.access.specs.Contracts.{Ends};
 ghost use Rattle.exec.specs.Dyadic.{writeTagged, storeTagged, tagged as taggedOf, computeTagged};
 ghost use Rattle.operands.specs.Code.{placeAt};
-ghost use Rattle.dyadic.specs.Code.{putTagged};
 
 // To an operand that is no register, found at a.
 fn put_tagged(

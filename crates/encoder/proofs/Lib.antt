@@ -1,4 +1,3 @@
-mod Bounds
 mod ShortExits
 mod ValueExits
 mod OperandExits

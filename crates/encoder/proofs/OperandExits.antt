@@ -12,7 +12,8 @@ use Rattle.isa.specs.declared.Operands.the-variants.{Gen, GenAddress, GenMoved}
 use Rattle.isa.specs.declared.Wide.{Wide}
 use Rattle.isa.specs.declared.Wide.the-variants.{Three}
 use Rattle.word.specs.Widths.{signExtendOf}
-use Rattle.isa.specs.Encode.{modeCode, operandCode, isAbsolute, fits16, fitsGen, fits, aRegister, addressCode, movedCode, admits}
+use Rattle.isa.specs.Legal.{isRegister}
+use Rattle.isa.specs.Encode.{operandCode, fits16, fitsGen, fits, movedCode, admits, modeCode, isAbsolute, addressCode}
 
 -- fits_16, fits_general, fits_form
 pub fits-absolute : (k v : ℕ) (p : Bool) → p ≡ isAbsolute k → p ≡ true → ltb v 65536 ≡ fits16 k v
@@ -31,7 +32,7 @@ pub fits-register : (w : Wide) (o : Operand) (n : ℕ) → o ≡ Register n → 
 fits-register w o n e = rw e
 
 -- admits_both
-module _ (c : Operands) (s d : Operand) (a b : Bool) (ea : a ≡ aRegister s) (eb : b ≡ aRegister d) where
+module _ (c : Operands) (s d : Operand) (a b : Bool) (ea : a ≡ isRegister s) (eb : b ≡ isRegister d) where
   pub admits-gen : c ≡ Gen → (not a || not b) ≡ admits c s d
   admits-gen e = rw (e, ea, eb)
 

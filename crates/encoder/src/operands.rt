@@ -8,7 +8,8 @@ use isa::Wide;
 use word::Width;
 use word::widths::sign_extend;
 ghost use mathlib.Core.Path.{_≡_};
-ghost use Rattle.isa.specs.Encode.{isAbsolute, fits16, fitsGen, fits, aRegister, addressCode, movedCode, admits, operandRaw};
+ghost use Rattle.isa.specs.Legal.{isRegister};
+ghost use Rattle.isa.specs.Encode.{fits16, fitsGen, fits, movedCode, admits, operandRaw, isAbsolute, addressCode};
 
 // Whether a mode's number is that of an absolute address.
 fn is_absolute(k: u32) -> bool
@@ -48,7 +49,7 @@ pub fn fits_form(w: Wide, o: Operand) -> bool
 }
 
 fn is_register(o: Operand) -> bool
-    ensures { λ r. ⌜ r ≡ aRegister o ⌝ }
+    ensures { λ r. ⌜ r ≡ isRegister o ⌝ }
 {
     match o {
         Operand::General(_, _) => false,

@@ -1,9 +1,9 @@
 -- What an operation gives of destination and source: a word, and the flags it sets (1.8 and the pages of section 3.3).
 -- Assumes nothing.
-use Prim.Native.Nat.{ℕ, _+_, _*_, _/_, _%_, _^_}
+use Prim.Native.Nat.{ℕ}
 use mathlib.Core.Bool.{Bool, true, false}
 use lib.Bits.{bitAnd, bitOr, bitXor}
-use Rattle.bits.specs.Bits.{bitOf}
+use Rattle.bits.specs.Bits.{bitOf, putOf}
 use Rattle.word.specs.Sums.{addOf, subOf, equalOf, greaterOf, higherOf}
 use Rattle.word.specs.Products.{mulOf, divOf, udivOf, uremOf}
 use Rattle.word.specs.Shifts.{shlOf, shrOf, ushrOf}
@@ -84,15 +84,18 @@ digit false = 0
 
 -- a word with bit n as b
 abbrev pub withBitAs : ℕ → Bool → ℕ → ℕ
-withBitAs n b x = x / 2 ^ n / 2 * 2 * 2 ^ n + digit b * 2 ^ n + x % 2 ^ n
+withBitAs n b x = putOf x n (digit b)
 
 abbrev pub flagged : ℕ → Flag → ℕ → ℕ
 flagged n stays x = x
 flagged n (gets b) x = withBitAs n b x
 
 -- the flags laid over PSW as it then is
+abbrev pub flagsOver : Flag → Flag → ℕ → ℕ
+flagsOver cf vf x = flagged overflowBit vf (flagged carryBit cf x)
+
 abbrev pub withFlags : Cpu → Flag → Flag → Cpu
-withFlags c cf vf = with c psw (flagged overflowBit vf (flagged carryBit cf (reg c psw)))
+withFlags c cf vf = with c psw (flagsOver cf vf (reg c psw))
 
 abbrev pub withFlag : Cpu → Bool → Cpu
 withFlag c f = with c psw (withBitAs flagBit f (reg c psw))

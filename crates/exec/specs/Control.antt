@@ -3,6 +3,7 @@
 use Prim.Native.Nat.{ℕ, _*_, _/_}
 use mathlib.Core.Bool.{Bool, false, cond, not, _&&_, _||_}
 use lib.Dec.{ltb}
+use Rattle.bits.specs.Bits.{bitOf}
 use Rattle.word.specs.declared.Width.the-variants.{Word}
 use Rattle.word.specs.Sums.{plusOf}
 use Rattle.isa.specs.declared.MonadicMode.{MonadicMode}
@@ -12,7 +13,7 @@ use Rattle.machine.specs.Registers.{pc, psw, msp, shad}
 use Rattle.machine.specs.Status.{Cpu, reg, with, csp, spCurrent, cacheOn}
 use Rattle.access.specs.Parts.{Out, done, _>>=_}
 use Rattle.access.specs.Data.{readData, writeData}
-use Rattle.exec.specs.Alu.{withBitAs, flagBit, pswBit}
+use Rattle.exec.specs.Alu.{withBitAs, flagBit}
 use Rattle.exec.specs.Operands.{stackAddress, writeAccumulator}
 
 -- "the PC is always a multiple of two" (1.5.6)
@@ -26,13 +27,17 @@ nextPc c n = plusOf (reg c pc) (n * 2)
 abbrev pub advanced : Cpu → ℕ → Cpu
 advanced c n = with c pc (nextPc c n)
 
+-- the word that the word at a points to
+unfoldable pub readThrough : Cpu → ℕ → Program (Out ℕ)
+readThrough c a = do
+  w ← readData c Word a
+  readData c Word w
+
 -- an operand of a word mode: KCALL, and the targets that are read
 unfoldable pub readWord32 : Cpu → MonadicMode → ℕ → Program (Out ℕ)
 readWord32 c WordAbsolute v = readData c Word v
 readWord32 c WordStack v = readData c Word (stackAddress c v)
-readWord32 c WordIndirect v = do
-  a ← readData c Word (stackAddress c v)
-  readData c Word a
+readWord32 c WordIndirect v = readThrough c (stackAddress c v)
 readWord32 c WordImmediate v = done v
 readWord32 c FlowAbsoluteIndirect v = readData c Word v
 readWord32 c FlowStackIndirect v = readData c Word (stackAddress c v)
@@ -53,18 +58,26 @@ unfoldable pub jumpIf : Bool → Cpu → MonadicMode → ℕ → ℕ → Program
 jumpIf b c m v n = cond b (jump c m v) (done (advanced c n))
 
 -- CALL: the target is read, the next PC is stored at the current stack pointer, then PC is the target
-unfoldable pub call : Cpu → MonadicMode → ℕ → ℕ → Program (Out Cpu)
-call c m v n = do
-  a ← flowTarget c m v
+unfoldable pub callTo : Cpu → ℕ → ℕ → Program (Out Cpu)
+callTo c a n = do
   c ← writeData c Word (reg c (csp (c .bank))) (nextPc c n)
   done (jumped c a)
 
+unfoldable pub call : Cpu → MonadicMode → ℕ → ℕ → Program (Out Cpu)
+call c m v n = do
+  a ← flowTarget c m v
+  callTo c a n
+
 -- LDRAA: "calculated as if a JMP instruction was being executed and stored in the accumulator"
+unfoldable pub loadAccumulator : Cpu → ℕ → ℕ → Program (Out Cpu)
+loadAccumulator c a n = do
+  c ← writeAccumulator c a
+  done (advanced c n)
+
 unfoldable pub loadAddress : Cpu → MonadicMode → ℕ → ℕ → Program (Out Cpu)
 loadAddress c m v n = do
   a ← flowTarget c m v
-  c ← writeAccumulator c a
-  done (advanced c n)
+  loadAccumulator c a n
 
 -- the current stack pointer with its shadow
 abbrev pub withCsp : Cpu → ℕ → Cpu
@@ -84,8 +97,11 @@ return c v = do
   done (jumped (released c v) a)
 
 -- TESTC, TESTV: "copied into the PSW flag bit", and cleared
+abbrev pub testedOf : ℕ → ℕ → ℕ
+testedOf x n = withBitAs flagBit (bitOf x n) (withBitAs n false x)
+
 abbrev pub testBit : Cpu → ℕ → Cpu
-testBit c n = with c psw (withBitAs flagBit (pswBit c n) (withBitAs n false (reg c psw)))
+testBit c n = with c psw (testedOf (reg c psw) n)
 
 -- Table 1-8: enter guard
 abbrev pub guardBit : ℕ

@@ -4,6 +4,7 @@ use Prim.Native.Nat.{ℕ, zero, suc, _*_, _%_}
 use mathlib.Core.Bool.{Bool, true, false, cond, _&&_}
 use mathlib.Core.List.{List, [], _∷_}
 use lib.Dec.{eqb}
+use Rattle.bits.specs.Bits.{bitOf}
 use Rattle.word.specs.declared.Width.the-variants.{Word}
 use Rattle.word.specs.declared.Tagged.{Tagged}
 use Rattle.word.specs.Sums.{plusOf}
@@ -21,83 +22,103 @@ use Rattle.exec.specs.declared.Operation.{Operation}
 use Rattle.exec.specs.declared.Relation.{Relation}
 use Rattle.exec.specs.declared.Task.{Task}
 use Rattle.exec.specs.declared.Task.the-variants.{Compute, Accumulate, Interlock, Compare, TaggedAdd, TaggedSub, Move, MoveAddress, MoveWords}
-use Rattle.exec.specs.Alu.{operate, divides, zeroDivide, related, withFlags, withFlag, pswBit, flagBit, carryBit, overflowBit, withBitAs}
+use Rattle.exec.specs.Alu.{Result, operate, divides, zeroDivide, related, withFlags, withFlag, flagBit, carryBit, overflowBit, withBitAs}
 use Rattle.exec.specs.Operands.{Place, inMemory, inRegister, literal, locate, readPlace, readOperand, writePlace, writeRegister, writeAccumulator, checkRegisters}
 
 -- "Division by zero results in a zero divide exception"
 unfoldable pub checkDivisor : Cpu → Operation → ℕ → Program (Out Cpu)
 checkDivisor c op x = cond (divides op && eqb x 0) (ret (stop zeroDivide c)) (done c)
 
--- ADD, SUB, MUL, DIV, REM, UDIV, UREM, AND, OR, XOR, SHL, SHR, USHR: the result is written, then the flags are laid over
-unfoldable pub compute : Cpu → Wide → Operation → Operand → Operand → Program (Out Cpu)
-compute c w op s d = do
+-- the source's value, the destination's place and its value, then the rest
+abbrev pub reading : Cpu → Wide → Operand → Operand → (ℕ → Place → ℕ → Program (Out Cpu)) → Program (Out Cpu)
+reading c w s d f = do
   x ← readOperand c w s
   p ← locate c w d
   y ← readPlace c p
+  f x p y
+
+-- ADD, SUB, MUL, DIV, REM, UDIV, UREM, AND, OR, XOR, SHL, SHR, USHR: the result is written, then the flags are laid over
+abbrev pub putResult : Cpu → Place → Result → Program (Out Cpu)
+putResult c p r = do
+  c ← writePlace c p (r .value)
+  done (withFlags c (r .carry) (r .overflow))
+
+abbrev pub computeWith : Cpu → Operation → Place → ℕ → ℕ → Program (Out Cpu)
+computeWith c op p x y = do
   c ← checkDivisor c op x
-  c ← writePlace c p (operate op y x .value)
-  done (withFlags c (operate op y x .carry) (operate op y x .overflow))
+  putResult c p (operate op y x)
+
+unfoldable pub compute : Cpu → Wide → Operation → Operand → Operand → Program (Out Cpu)
+compute c w op s d = reading c w s d (λ x p y. computeWith c op p x y)
 
 -- the same with a trailing 3: "the sum is placed in .. the Accumulator"
-unfoldable pub accumulate : Cpu → Wide → Operation → Operand → Operand → Program (Out Cpu)
-accumulate c w op s d = do
-  x ← readOperand c w s
-  p ← locate c w d
-  y ← readPlace c p
+abbrev pub accumulateResult : Cpu → Result → Program (Out Cpu)
+accumulateResult c r = do
+  c ← writeAccumulator c (r .value)
+  done (withFlags c (r .carry) (r .overflow))
+
+abbrev pub accumulateWith : Cpu → Operation → ℕ → ℕ → Program (Out Cpu)
+accumulateWith c op x y = do
   c ← checkDivisor c op x
-  c ← writeAccumulator c (operate op y x .value)
-  done (withFlags c (operate op y x .carry) (operate op y x .overflow))
+  accumulateResult c (operate op y x)
+
+unfoldable pub accumulate : Cpu → Wide → Operation → Operand → Operand → Program (Out Cpu)
+accumulate c w op s d = reading c w s d (λ x p y. accumulateWith c op x y)
 
 -- ADDI, ANDI, ORI: "The original value of dst is placed in the accumulator", after dst; no flag changes
-unfoldable pub interlock : Cpu → Wide → Operation → Operand → Operand → Program (Out Cpu)
-interlock c w op s d = do
-  x ← readOperand c w s
-  p ← locate c w d
-  y ← readPlace c p
+abbrev pub interlockWith : Cpu → Operation → Place → ℕ → ℕ → Program (Out Cpu)
+interlockWith c op p x y = do
   c ← writePlace c p (operate op y x .value)
   writeAccumulator c y
 
+unfoldable pub interlock : Cpu → Wide → Operation → Operand → Operand → Program (Out Cpu)
+interlock c w op s d = reading c w s d (λ x p y. interlockWith c op p x y)
+
 -- CMP
 unfoldable pub compare : Cpu → Wide → Relation → Operand → Operand → Program (Out Cpu)
-compare c w r s d = do
-  x ← readOperand c w s
-  p ← locate c w d
-  y ← readPlace c p
-  done (withFlag c (related r x y))
+compare c w r s d = reading c w s d (λ x p y. done (withFlag c (related r x y)))
 
 -- TADD, TSUB: the flags are set, then the result is stored, unless F is set
+abbrev pub taggedOver : Tagged → ℕ → ℕ
+taggedOver t x = withBitAs flagBit (t .flag) (withBitAs overflowBit (t .overflow) (withBitAs carryBit (t .carry) x))
+
 abbrev pub taggedFlags : Cpu → Tagged → Cpu
-taggedFlags c t =
-    with c psw (withBitAs flagBit (t .flag) (withBitAs overflowBit (t .overflow) (withBitAs carryBit (t .carry) (reg c psw))))
+taggedFlags c t = with c psw (taggedOver t (reg c psw))
 
 -- a store that faults leaves the flags; a register takes the result after them
-unfoldable pub writeTagged : Cpu → Tagged → Place → Program (Out Cpu)
-writeTagged c t (inMemory m a) = do
-  c ← writePlace c (inMemory m a) (t .value)
+abbrev pub putTagged : Cpu → Tagged → Place → Program (Out Cpu)
+putTagged c t p = do
+  c ← writePlace c p (t .value)
   done (taggedFlags c t)
+
+unfoldable pub writeTagged : Cpu → Tagged → Place → Program (Out Cpu)
+writeTagged c t (inMemory m a) = putTagged c t (inMemory m a)
 writeTagged c t (inRegister k) = done (writeRegister (taggedFlags c t) k (t .value))
 writeTagged c t (literal v) = done (taggedFlags c t)
 
 abbrev pub storeTagged : Cpu → Tagged → Place → Program (Out Cpu)
 storeTagged c t p = cond (t .stored) (writeTagged c t p) (done (taggedFlags c t))
 
+abbrev pub taggedWith : Bool → ℕ → ℕ → ℕ → Tagged
+taggedWith true psw y x = taggedSubOf y x (bitOf psw carryBit) (bitOf psw overflowBit)
+taggedWith false psw y x = taggedAddOf y x (bitOf psw carryBit) (bitOf psw overflowBit)
+
 abbrev pub tagged : Bool → Cpu → ℕ → ℕ → Tagged
-tagged true c y x = taggedSubOf y x (pswBit c carryBit) (pswBit c overflowBit)
-tagged false c y x = taggedAddOf y x (pswBit c carryBit) (pswBit c overflowBit)
+tagged minus c y x = taggedWith minus (reg c psw) y x
 
 unfoldable pub computeTagged : Cpu → Wide → Bool → Operand → Operand → Program (Out Cpu)
-computeTagged c w minus s d = do
-  x ← readOperand c w s
-  p ← locate c w d
-  y ← readPlace c p
-  storeTagged c (tagged minus c y x) p
+computeTagged c w minus s d = reading c w s d (λ x p y. storeTagged c (tagged minus c y x) p)
 
 -- MOV
+abbrev pub moveTo : Cpu → Wide → Operand → ℕ → Program (Out Cpu)
+moveTo c w d v = do
+  p ← locate c w d
+  writePlace c p v
+
 unfoldable pub move : Cpu → Wide → Operand → Operand → Program (Out Cpu)
 move c w s d = do
   x ← readOperand c w s
-  p ← locate c w d
-  writePlace c p x
+  moveTo c w d x
 
 -- MOVA: "The address of the source operand is calculated and stored in the destination"; it is neither aligned nor translated
 abbrev pub placeAddress : Place → ℕ
@@ -108,8 +129,7 @@ placeAddress (literal v) = v
 unfoldable pub moveAddress : Cpu → Wide → Operand → Operand → Program (Out Cpu)
 moveAddress c w s d = do
   a ← locate c w s
-  p ← locate c w d
-  writePlace c p (placeAddress a)
+  moveTo c w d (placeAddress a)
 
 -- DQM: two or four words by the destination's mode; all are read before the destination is found
 abbrev pub wordCount : Operand → ℕ

@@ -1,6 +1,6 @@
 -- Event frames, vectors and the reset (1.11): KCALL, KRET, CRET, interrupts, exceptions, unimplemented instructions.
 -- Assumes nothing.
-use Prim.Native.Nat.{ℕ, _+_, _*_, _/_, _^_}
+use Prim.Native.Nat.{ℕ, _*_, _/_, _^_}
 use mathlib.Core.Bool.{cond}
 use Rattle.word.specs.declared.Width.the-variants.{Word}
 use Rattle.word.specs.Sums.{plusOf, minusOf}
@@ -101,23 +101,36 @@ kret c = do
 abbrev pub restoredRegime : Cpu → ℕ → Regime
 restoredRegime c p = record { stb = reg c stb; user = isUser (c .bank); translated = bitOf p 16 }
 
+-- the cache is filled to t, and MSP left there
+unfoldable pub cretCaught : Cpu → ℕ → ℕ → Program (Out Cpu)
+cretCaught c t p = do
+  c ← catchTo c (restoredRegime c p) t
+  done (with c msp t)
+
 -- SP is the frame's; MSP starts there and the cache is filled to the frame's MSP, if the restored PSW makes SP current
 unfoldable pub cretFill : Cpu → ℕ → ℕ → Program (Out Cpu)
 cretFill c m p =
     cond (bitOf p 9)
-    (cond (bitOf (reg c config) 18)
-    (catchTo c (restoredRegime c p) (kept msp m) >>= (λ d. done (with d msp (kept msp m))))
-    (done c))
+    (cond (bitOf (reg c config) 18) (cretCaught c (kept msp m) p) (done c))
     (done (with c msp (kept msp m)))
+
+-- with all four words of the frame, and with the first two of them
+unfoldable pub cretFrom : Cpu → ℕ → ℕ → ℕ → ℕ → Program (Out Cpu)
+cretFrom c s m a p = do
+  c ← cretFill (with (with c sp (kept sp s)) msp (kept sp s)) m p
+  done (returned c a p)
+
+unfoldable pub cretAfter : Cpu → ℕ → ℕ → Program (Out Cpu)
+cretAfter c s m = do
+  a ← readFrame c (plusOf (reg c isp) 8)
+  p ← readFrame c (plusOf (reg c isp) 12)
+  cretFrom c s m a p
 
 unfoldable pub cret : Cpu → Program (Out Cpu)
 cret c = do
   s ← readFrame c (reg c isp)
   m ← readFrame c (plusOf (reg c isp) 4)
-  a ← readFrame c (plusOf (reg c isp) 8)
-  p ← readFrame c (plusOf (reg c isp) 12)
-  c ← cretFill (with (with c sp (kept sp s)) msp (kept sp s)) m p
-  done (returned c a p)
+  cretAfter c s m
 
 -- "KRET is privileged", and CRET
 unfoldable pub privileged : Cpu → Program (Out Cpu) → Program (Out Cpu)

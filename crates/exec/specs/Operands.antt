@@ -84,9 +84,12 @@ abbrev pub expanded : Mode → ℕ → ℕ
 expanded m x = cond (isSigned m) (signExtendOf (bitsOf (widthOf m)) x) x
 
 -- 1.6.2: a 16-bit absolute address, by the CONFIG PC extension bit; PC is the instruction's, or its prefix's
+abbrev pub absoluteOn : ℕ → ℕ → Wide → ℕ → ℕ
+absoluteOn config pc Three v = cond (bitOf config 17) (plusOf (pc / 2 ^ 29 * 2 ^ 29) v) v
+absoluteOn config pc Five v = v
+
 abbrev pub absoluteAddress : Cpu → Wide → ℕ → ℕ
-absoluteAddress c Three v = cond (bitOf (reg c config) 17) (plusOf (reg c pc / 2 ^ 29 * 2 ^ 29) v) v
-absoluteAddress c Five v = v
+absoluteAddress c w v = absoluteOn (reg c config) (reg c pc) w v
 
 -- from the current stack pointer
 abbrev pub stackAddress : Cpu → ℕ → ℕ

@@ -63,15 +63,20 @@ abbrev pub clipped : ℕ → ℕ → ℕ → ℕ
 clipped old m target =
     cond (ltb scsize (minusOf old target)) (cond (ltb (plusOf target scsize) m) (plusOf target scsize) m) m
 
+-- after the flush both pointers are checked, then set
+unfoldable pub enterClipped : Cpu → ℕ → ℕ → Program (Out Cpu)
+enterClipped c target old = do
+  _ ← checkStore c target
+  _ ← checkMsp c (regime (c .bank)) old (clipped old (reg c msp) target)
+  done (with (withCsp c target) msp (clipped old (reg c msp) target))
+
 unfoldable pub enterOffset : Cpu → ℕ → Program (Out Cpu)
 enterOffset c target = enterFrom c target (reg c msp)
   where
     enterFrom : Cpu → ℕ → ℕ → Program (Out Cpu)
     enterFrom c target old = do
       c ← flush false target quadWords c
-      _ ← checkStore c target
-      _ ← checkMsp c (regime (c .bank)) old (clipped old (reg c msp) target)
-      done (with (withCsp c target) msp (clipped old (reg c msp) target))
+      enterClipped c target old
 
 unfoldable pub enterAt : Cpu → MonadicMode → ℕ → Program (Out Cpu)
 enterAt c m target =

@@ -21,7 +21,7 @@ use Rattle.exec.specs.Control.{readWord32, nextPc}
 use Rattle.exec.specs.Frames.{pushFrame, throughVector, kcallVector, kcall, returned, kret}
 use Rattle.control.proofs.Ways.{finished, loaded-on, load-stopped}
 use Rattle.control.proofs.WordLaws.{Valued}
-use Rattle.control.proofs.FlowLaws.{Made}
+use Rattle.machine.proofs.BankLaws.{Made}
 
 -- ---- KCALL
 

@@ -17,7 +17,7 @@ use Rattle.access.specs.Code.{ended}
 use Rattle.exec.specs.Control.{jumped}
 use Rattle.exec.specs.Frames.{pushPair, pushFrame, throughVector}
 use Rattle.control.proofs.Ways.{finished, loaded-on, load-stopped, stored-on, store-stopped}
-use Rattle.control.proofs.FlowLaws.{Made}
+use Rattle.machine.proofs.BankLaws.{Made}
 
 -- ---- PC and PSW
 

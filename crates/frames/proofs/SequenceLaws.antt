@@ -19,7 +19,7 @@ use Rattle.access.proofs.PartLaws.{ended-goes, ended-stops}
 use Rattle.exec.specs.Control.{jumped}
 use Rattle.exec.specs.Frames.{pushPair, pushFrame, throughVector, restoredCsp, exceptionVector, interruptSequence, exceptionSequence, storePc, unimplementedSequence}
 use Rattle.control.proofs.Ways.{finished, loaded-on, load-stopped, stored-on, store-stopped}
-use Rattle.control.proofs.FlowLaws.{Made}
+use Rattle.machine.proofs.BankLaws.{Made}
 
 -- ---- interrupts and exceptions: s is the bank with the stack pointer restored
 

@@ -2,7 +2,7 @@
 -- Assumes nothing.
 use Prim.Native.Nat.{ℕ, _+_, _/_, _*_, _%_, _^_, _<_, _≤_}
 use mathlib.Core.Path.{_≡_, refl, sym, ap, _∙_}
-use mathlib.Core.Bool.{Bool, true, false, cond}
+use mathlib.Core.Bool.{Bool, true, false}
 use native.Mathlib.Nat.{mod-eq-of-lt}
 use native.Mathlib.Omega.{arith}
 use lib.ListN.{length}
@@ -236,26 +236,3 @@ fits-half w a e = ap (λ (v : Width). fitsWidth v a) (sym e)
 
 pub fits-word : (w : Width) (a : ℕ) → w ≡ Word → eqb (a % 4) 0 ≡ fitsWidth w a
 fits-word w a e = ap (λ (v : Width). fitsWidth v a) (sym e)
-
--- ---- a check of stores notes nothing, so it may be asked without the journal
-
-probe-note : (r : Regime) (x : ℕ) (m : Memory) (j : Journal) → accessNote (probe r x) m j ≡ j
-unfolding accessNote followNote touchNote walkNote
-probe-note r x m j = both (aligned (probe r x)) (route (regimeOf (probe r x)) (kindOf (probe r x)) (addressOf (probe r x)) m)
-  where
-    walked : (w : Walk) → followNote (probe r x) m w j ≡ j
-    walked (Fault c) = refl
-    walked (Direct pa) = refl
-    walked (Paged p pa) = refl
-
-    both : (b : Bool) (w : Walk) → cond b (followNote (probe r x) m w j) j ≡ j
-    both true w = walked w
-    both false w = refl
-
-pub probe-noted : (r : Regime) (x : ℕ) (m : Memory) (j : Journal) (z : Answer) → gave z (onlyMemory m) ≡ logging (probe r x) (onlyMemory m)
-    → gave z (record { memory = m; log = j }) ≡ logging (probe r x) (record { memory = m; log = j })
-unfolding logging
-probe-noted r x m j z e =
-    let f : z ≡ access (probe r x) m .out = ap (λ (g : Gave Journaled Answer). g .out) e in
-    let n : m ≡ access (probe r x) m .world = ap (λ (g : Gave Journaled Answer). g .world .memory) e in
-    rw (← f, ← n, probe-note r x m j) refl

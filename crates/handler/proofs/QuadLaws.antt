@@ -9,6 +9,7 @@ use native.Mathlib.Omega.{arith}
 use lib.ListN.{length}
 use lib.Dec.{eqb, leb}
 use borrow.Author.Tests.{le-leb, lt-leb, leb-true, eq-eqb, ne-eqb, eqb-true, eqb-false}
+use Rattle.laws.proofs.Cases.{and-both, missed}
 use Rattle.word.specs.declared.Width.the-variants.{Word}
 use Rattle.memory.specs.Answers.{Answer, got, answerOf}
 use Rattle.memory.specs.Bytes.{Memory, number, holds, load, stored, storeAnswer, storeMemory}
@@ -131,14 +132,6 @@ module _ (user : Bool) (stb : ℕ) (a : ℕ) (m : Memory) (pa i : ℕ) (few : i 
 
 -- ---- places
 
-both : (x y : Bool) → (x && y) ≡ true → (x ≡ true) × (y ≡ true)
-both true y h = (refl, h)
-both false y h = (h, cc)
-
-not-true : (b : Bool) → not b ≡ true → b ≡ false
-not-true true h = sym h
-not-true false h = refl
-
 -- the place of a quad-word is an address: it lies there
 pub quad-place : (user : Bool) (stb : ℕ) (k : Kind) (a : ℕ) (m : Memory) → quadPlace user stb k a m < 2 ^ 32
     → Quad user stb k a m (quadPlace user stb k a m)
@@ -147,20 +140,20 @@ quad-place user stb k a m h = go (walk user stb k a m) refl h
   where
     quad-at : (p pa : ℕ) → walk user stb k a m ≡ Paged p pa → sharesWalk stb k a m p pa ≡ true → Quad user stb k a m pa
     quad-at p pa e t =
-        let f5 = both (not (fresh k p m) && eqb (a % 16) 0 && eqb (pa % 16) 0 && leb (pa + 16) (length m) && not (eqb (p / 16) (pa / 16))) (not (eqb (segmentPlace stb a / 16) (pa / 16))) t in
-        let f4 = both (not (fresh k p m) && eqb (a % 16) 0 && eqb (pa % 16) 0 && leb (pa + 16) (length m)) (not (eqb (p / 16) (pa / 16))) (f5 .0) in
-        let f3 = both (not (fresh k p m) && eqb (a % 16) 0 && eqb (pa % 16) 0) (leb (pa + 16) (length m)) (f4 .0) in
-        let f2 = both (not (fresh k p m) && eqb (a % 16) 0) (eqb (pa % 16) 0) (f3 .0) in
-        let f1 = both (not (fresh k p m)) (eqb (a % 16) 0) (f2 .0) in
+        let f5 = and-both (not (fresh k p m) && eqb (a % 16) 0 && eqb (pa % 16) 0 && leb (pa + 16) (length m) && not (eqb (p / 16) (pa / 16))) (not (eqb (segmentPlace stb a / 16) (pa / 16))) t in
+        let f4 = and-both (not (fresh k p m) && eqb (a % 16) 0 && eqb (pa % 16) 0 && leb (pa + 16) (length m)) (not (eqb (p / 16) (pa / 16))) (f5 .0) in
+        let f3 = and-both (not (fresh k p m) && eqb (a % 16) 0 && eqb (pa % 16) 0) (leb (pa + 16) (length m)) (f4 .0) in
+        let f2 = and-both (not (fresh k p m) && eqb (a % 16) 0) (eqb (pa % 16) 0) (f3 .0) in
+        let f1 = and-both (not (fresh k p m)) (eqb (a % 16) 0) (f2 .0) in
         record {
           entry = p;
           found = e;
-          old = not-true (fresh k p m) (f1 .0);
+          old = missed (fresh k p m) (f1 .0);
           start = eqb-true (a % 16) 0 (f1 .1);
           place = eqb-true (pa % 16) 0 (f2 .1);
           inside = leb-true (pa + 16) (length m) (f3 .1);
-          apart = eqb-false (p / 16) (pa / 16) (not-true _ (f4 .1));
-          clear = eqb-false (segmentPlace stb a / 16) (pa / 16) (not-true _ (f5 .1));
+          apart = eqb-false (p / 16) (pa / 16) (missed _ (f4 .1));
+          clear = eqb-false (segmentPlace stb a / 16) (pa / 16) (missed _ (f5 .1));
         }
 
     paged-at : (p pa : ℕ) → walk user stb k a m ≡ Paged p pa → (s : Bool) → sharesWalk stb k a m p pa ≡ s → cond s pa nowhere < 2 ^ 32

@@ -1,5 +1,5 @@
 -- The encoder: the parcels of an instruction at a named length, or refusal 5 (section 3.3, with the bit places of section 1.6).
-use Prim.Native.Nat.{ℕ, _+_, _*_, _-_, _/_, _%_}
+use Prim.Native.Nat.{ℕ, _+_, _*_, _/_, _%_}
 use mathlib.Core.Bool.{Bool, true, false, cond, not, _&&_, _||_}
 use lib.Dec.{ltb, leb, eqb}
 use Rattle.isa.specs.declared.FieldMode.{FieldMode}
@@ -28,6 +28,7 @@ use Rattle.isa.specs.declared.Encoded.the-variants.{Parcels, Refused}
 use Rattle.isa.specs.Refusals.{noCode}
 use Rattle.word.specs.Widths.{signExtendOf}
 use Rattle.isa.specs.Fields.{fieldValue}
+use Rattle.isa.specs.Legal.{isRegister}
 use Rattle.isa.specs.Encodings.{shortListed, dyadicListed, monadicListed}
 
 abbrev pub coded : Bool → Text → Encoded
@@ -137,10 +138,6 @@ abbrev pub fits : Wide → Operand → Bool
 fits w (General m v) = fitsGen w (modeCode m) v
 fits w (Register n) = ltb n 16
 
-abbrev pub aRegister : Operand → Bool
-aRegister (General m v) = false
-aRegister (Register n) = true
-
 -- the modes >= 0xC but the immediate; DQM's 0x0, 0x4, 0x8 and 0xC, 0xD, 0xE
 abbrev pub addressCode : ℕ → Bool
 addressCode k = leb 0xC k && ltb k 0xF
@@ -151,10 +148,10 @@ movedCode k = eqb k 0x0 || eqb k 0x4 || eqb k 0x8 || addressCode k
 -- gen: at most one register is read; MOV's destination is only written; MOVA takes no register, and a word's address;
 -- DQM takes no register, "Only word addressing modes are permitted for the source and the special modes for the destination"
 abbrev pub admits : Operands → Operand → Operand → Bool
-admits Gen s d = not (aRegister s) || not (aRegister d)
+admits Gen s d = not (isRegister s) || not (isRegister d)
 admits GenWritten s d = true
-admits GenAddress s d = not (aRegister s) && not (aRegister d) && addressCode (operandCode s)
-admits GenMoved s d = not (aRegister s) && not (aRegister d) && leb 0xC (operandCode s) && movedCode (operandCode d)
+admits GenAddress s d = not (isRegister s) && not (isRegister d) && addressCode (operandCode s)
+admits GenMoved s d = not (isRegister s) && not (isRegister d) && leb 0xC (operandCode s) && movedCode (operandCode d)
 
 abbrev pub operandRaw : Operand → ℕ
 operandRaw (General m v) = v

@@ -16,4 +16,4 @@ bounded-alike R g h Q P s n (ret a) b v w r = record { out = refl; world = r }
 bounded-alike R g h Q P s zero (ask q k) b v w r = absurd b
 bounded-alike R g h Q P s (suc n) (ask q k) b v w r =
     let t = s q (b .0) v w r in
-    rw (← t .out) (bounded-alike R g h Q P s n (k (g q v .out)) (b .1 (g q v .out)) (g q v .world) (h q w .world) (t .world))
+    rw (← t .out) (bounded-alike R g h Q P s n (k (g q v .out)) (b .1 (g q v .out) tt) (g q v .world) (h q w .world) (t .world))

@@ -9,6 +9,7 @@ use native.Mathlib.Omega.{arith}
 use lib.ListN.{length}
 use lib.Dec.{eqb, leb}
 use borrow.Author.Tests.{leb-true, le-leb, eqb-true, eqb-false, eq-eqb}
+use Rattle.laws.proofs.Cases.{or-left, or-right}
 use Rattle.memory.specs.Bytes.{holds}
 use Rattle.mmu.specs.declared.Kind.{Kind}
 use Rattle.mmu.specs.declared.Kind.the-variants.{Fetch, Read, Write}
@@ -59,14 +60,6 @@ isPaged (Direct p) = false
 isPaged (Paged e p) = true
 
 -- ---- entries
-
-or-left : (a b : Bool) → (a || b) ≡ false → a ≡ false
-or-left true b h = absurd (true≢false h)
-or-left false b h = refl
-
-or-right : (a b : Bool) → (a || b) ≡ false → b ≡ false
-or-right true b h = absurd (true≢false h)
-or-right false b h = h
 
 -- a valid word is among the entries of its page
 any-entry : (t : ℕ → Bool) (ws : Words) (p w : ℕ) → w / 0x1000 ≡ p → valid (wordAt ws w) ≡ true → t (wordAt ws w) ≡ true

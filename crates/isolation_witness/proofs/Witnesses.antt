@@ -17,7 +17,7 @@ use Rattle.access.specs.Parts.{onward, _>>=_, request, parcelRequest}
 use Rattle.access.specs.Text.{fetchParcel, fetchParcels, fetchAfter, fetchText}
 use Rattle.exec.specs.Operands.{located, locate, readPlace, readOperand, writePlace, checkRegisters}
 use Rattle.exec.specs.Dyadic.{move, perform, dyadic}
-use Rattle.exec.specs.Stack.{stackTarget, checkMsp, enterOffset, enterAt, enter}
+use Rattle.exec.specs.Stack.{stackTarget, checkMsp, enterOffset, enterAt, enter, enterClipped}
 use Rattle.exec.specs.Execute.{executeMonadic, executeNormal, execute}
 use Rattle.step.specs.Step.{fetchInstruction}
 use Rattle.step.specs.Timers.{counted}
@@ -47,7 +47,7 @@ unfolding trials course passed run refusal goodBank advance confinedTurn confine
 trials-checked = tt
 
 pub flushes-checked : Flushes
-unfolding flushes run refusal goodBank advance confinedTurn confinedAttempt tryActed fetchInstruction counted executeMonadic executeNormal execute move perform dyadic located locate readPlace readOperand checkRegisters stackTarget checkMsp enterOffset enterAt enter flushWord flushQuad flush checkStore fetchParcel fetchParcels fetchAfter fetchText onward _>>=_ request parcelRequest readCached readMemory readData cacheRead interpret after touch follow access segmentOf segment nonpagedOf pageOf walkFrom walk route marked fresh recorded decodeShort decodeBare decodeOf load storeAnswer storeMemory wordAt byteOf bytesFrom
+unfolding flushes run refusal goodBank advance confinedTurn confinedAttempt tryActed fetchInstruction counted executeMonadic executeNormal execute move perform dyadic located locate readPlace readOperand checkRegisters stackTarget checkMsp enterOffset enterAt enter flushWord flushQuad flush checkStore fetchParcel fetchParcels fetchAfter fetchText onward _>>=_ request parcelRequest readCached readMemory readData cacheRead interpret after touch follow access segmentOf segment nonpagedOf pageOf walkFrom walk route marked fresh recorded decodeShort decodeBare decodeOf load storeAnswer storeMemory wordAt byteOf bytesFrom enterClipped
 flushes-checked = tt
 
 pub same-flushes : SameFlushes

@@ -6,8 +6,7 @@ use Prim.Native.Nat.{ℕ, suc, _+_, _/_, _%_, _≤_, _<_}
 use native.Mathlib.Nat.{add-zero, div-one, div-div-eq-div-mul}
 use native.Mathlib.Numerals.{add-one}
 use native.Mathlib.Omega.{arith}
-use lib.ListN.{length, set, take, drop, length-set}
-use lib.Seq.{sets-eq}
+use lib.ListN.{length, set, length-set}
 use borrow.Author.Tests.{le-leb, lt-leb}
 use Rattle.lines.specs.Digits.{digit, digits}
 use Rattle.lines.specs.Answers.{written, output, printed, refusedLine, ranLine}
@@ -23,10 +22,6 @@ written-on [] b o p = rw add-zero refl
 written-on (x ∷ a) b o p =
     let e : p + suc (length a) ≡ suc p + length a = omega arith in
     rw e (written-on a b (set o p x) (suc p))
-
--- all other bytes stay
-pub written-is : (t o : List ℕ) (p : ℕ) → p + length t ≤ length o → written o p t ≡ take p o ++ t ++ drop (p + length t) o
-written-is t o p h = sets-eq t o p h
 
 -- a text after another
 on : (a b o x y : List ℕ) (p q : ℕ) → x ≡ written o p a → y ≡ written x q b → q ≡ p + length a → y ≡ written o p (a ++ b)

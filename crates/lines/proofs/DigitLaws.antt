@@ -1,7 +1,7 @@
 -- Digits: the number of one, numbers of two and eight, and the test of a whole line.
 -- Assumes nothing.
 use mathlib.Core.Path.{_≡_, refl, sym, ap, _∙_}
-use mathlib.Core.Bool.{Bool, true, false, cond, _&&_, _||_}
+use mathlib.Core.Bool.{Bool, true, false, true≢false, and-assoc, and-true, and-false, _&&_, _||_}
 use mathlib.Core.List.{List, [], _∷_, _++_}
 use Prim.Native.Nat.{ℕ, suc, _+_, _-_, _*_, _/_, _%_, _≤_, _<_}
 use native.Mathlib.Nat.{add-zero}
@@ -22,11 +22,8 @@ module _ (a z b : ℕ) where
   lower : (leb a b && leb b z) ≡ true → a ≤ b
   lower e = leb-true a b (and-left (leb a b) (leb b z) e)
 
-never : true ≡ false → ⊥
-never z = let y : _≡_ {A = ℕ} 0 1 = ap (λ (x : Bool). cond x 0 1) z in omega arith
-
 or-right : (a b : Bool) → a ≡ false → (a || b) ≡ true → b ≡ true
-or-right true b e g = absurd (never e)
+or-right true b e g = absurd (true≢false e)
 or-right false b e g = g
 
 module _ (b : ℕ) where
@@ -44,9 +41,9 @@ module _ (b : ℕ) where
   unfolding digitOf
   no-digit t e h =
       by-test (isDecimal b)
-      (λ d. let f : true ≡ isDigit b = rw d refl in absurd (never (f ∙ sym e ∙ h)))
+      (λ d. let f : true ≡ isDigit b = rw d refl in absurd (true≢false (f ∙ sym e ∙ h)))
       (λ d. by-test (isLetter b)
-      (λ l. let f : true ≡ isDigit b = rw (d, l) refl in absurd (never (f ∙ sym e ∙ h)))
+      (λ l. let f : true ≡ isDigit b = rw (d, l) refl in absurd (true≢false (f ∙ sym e ∙ h)))
       (λ l. (rw (d, l) refl, omega arith)))
 
 -- the last arm of a table of sixteen
@@ -69,18 +66,6 @@ pub number-8 : (s : List ℕ) (i : ℕ)
 number-8 s i = rw (number-next 6 s i, number-next 4 s i, number-next 2 s i) refl
 
 -- ---- a line read up to its byte i
-
-and-assoc : (a b c : Bool) → ((a && b) && c) ≡ (a && (b && c))
-and-assoc true b c = refl
-and-assoc false b c = refl
-
-and-true : (a : Bool) → (a && true) ≡ a
-and-true true = refl
-and-true false = refl
-
-and-false : (a : Bool) → (a && false) ≡ false
-and-false true = refl
-and-false false = refl
 
 all-append : (s t : List ℕ) → allDigits (s ++ t) ≡ (allDigits s && allDigits t)
 all-append [] t = refl

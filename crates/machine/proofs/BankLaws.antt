@@ -7,20 +7,23 @@ use Prim.Native.Nat.{ℕ, _≤_, _<_}
 use native.Mathlib.Decide.{ℕ-discrete, decLt}
 use native.Mathlib.Omega.{arith}
 use lib.ListN.{length, set, length-set}
-use lib.Seq.{getD-set-same, getD-set-other, set-comm, set-out}
+use lib.Seq.{getD-set-same, getD-set-other, set-out}
 use lib.Dec.{eqb}
 use borrow.Author.Tests.{eqb-false}
 use Rattle.machine.specs.Registers.{Bank, word, startBank, goodBank}
+use Rattle.machine.specs.Cache.{Cache}
+use Rattle.machine.specs.Status.{Cpu, cpu}
 use Rattle.machine.specs.Shapes.{BankShape}
+
+-- a bank made of another, whatever the cache
+abbrev pub Made : Bank → Bank → (Cpu → Cpu) → Type 0
+Made b d f = (q : Cache) → cpu d q ≡ f (cpu b q)
 
 pub word-set : (b : Bank) (k v : ℕ) → length b ≡ 17 → k < 17 → word (set b k v) k ≡ v
 word-set b k v e h = getD-set-same b k v 0 (omega arith)
 
 pub word-set-other : (b : Bank) (k v j : ℕ) → eqb j k ≡ false → word (set b k v) j ≡ word b j
 word-set-other b k v j e = getD-set-other b k j v 0 (eqb-false j k e)
-
-pub set-swap : (b : Bank) (j v k w : ℕ) → eqb j k ≡ false → set (set b j v) k w ≡ set (set b k w) j v
-set-swap b j v k w e = set-comm b j k v w (eqb-false j k e)
 
 pub length-17 : (b : Bank) (k v : ℕ) → length b ≡ 17 → length (set b k v) ≡ 17
 length-17 b k v e = length-set b k v ∙ e

@@ -150,7 +150,3 @@ quads-flat q s = quads-upto q s 16 (le-refl 16) ∙ take-all 16 q (omega (arith,
 pub shape-quads : (f : List ℕ) → CacheShape (quadsOf f)
 unfolding quadsOf
 shape-quads f = record { long = length-quads 16 f; four = λ i h. ap length (quad-at 16 i f h) }
-
-pub length-flatOf : (q : Cache) → length (flatOf q) ≡ 64
-unfolding flatOf
-length-flatOf q = length-flat 16 q

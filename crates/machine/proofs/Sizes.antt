@@ -1,4 +1,4 @@
--- What it means to hold a machine: thirteen registers and sixty-four cache words. A function that is given a machine m finds
+-- What it means to hold a machine: thirteen registers. A function that is given a machine m finds
 -- the premise in `c .good` of its parameters, one that is returned a machine in `.ok` of the call.
 -- Assumes nothing.
 use mathlib.Core.Path.{_≡_, sym, _∙_}
@@ -11,6 +11,3 @@ use Rattle.machine.proofs.Machine.{the-row}
 
 pub registers-13 : (m : Machine) (vs : List Val) → Is the-row m vs → length (m .registers) ≡ 13
 registers-13 m vs p = sym (length-map (m .registers) (λ v. v)) ∙ p .1 .1 .0 .1 .0 .1
-
-pub cache-64 : (m : Machine) (vs : List Val) → Is the-row m vs → length (m .cache) ≡ 64
-cache-64 m vs p = sym (length-map (m .cache) (λ v. v)) ∙ p .1 .1 .1 .0 .1 .0 .1

@@ -1,9 +1,8 @@
 // What the bits of PSW (Table 1-8) and CONFIG (Table 1-2) say of a bank.
 use bits::bit;
-use mmu::Regime;
 ghost use mathlib.Core.Path.{_≡_};
 ghost use Rattle.machine.specs.Status.{isVirtual, isUser, spCurrent, csp as cspOf, isLittle, cacheOn};
-ghost use Rattle.machine.specs.Status.{cached as cachedOf, regime, kernelRegime};
+ghost use Rattle.machine.specs.Status.{cached as cachedOf};
 
 // Whether addresses are translated.
 pub fn is_virtual(b: &[u32; 17]) -> bool
@@ -56,26 +55,4 @@ pub fn cached(b: &[u32; 17], a: u32) -> bool
     ensures { λ r. ⌜ r ≡ cachedOf (now (b .entry)) a ⌝ }
 {
     cache_on(b) & (b[8] <= a) & (a < b[4])
-}
-
-// How a data access or a fetch goes at the moment.
-pub fn current_regime(b: &[u32; 17]) -> Regime
-    ensures { λ r. ⌜ r ≡ regime (now (b .entry)) ⌝ }
-{
-    Regime {
-        stb: b[9],
-        user: is_user(b),
-        translated: is_virtual(b),
-    }
-}
-
-// How frames and vectors go: at kernel level.
-pub fn kernel_regime(b: &[u32; 17]) -> Regime
-    ensures { λ r. ⌜ r ≡ kernelRegime (now (b .entry)) ⌝ }
-{
-    Regime {
-        stb: b[9],
-        user: false,
-        translated: is_virtual(b),
-    }
 }

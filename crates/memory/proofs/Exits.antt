@@ -1,6 +1,5 @@
 -- A law for each way out of a function.
 -- Assumes nothing.
-use mathlib.Core.Bool.{Bool, true, false}
 use mathlib.Core.Path.{_≡_, refl, sym, _∙_}
 use Prim.Native.Nat.{ℕ, _+_, _*_, _/_, _%_, _≤_, _<_}
 use native.Mathlib.Nat.{add-zero}
@@ -8,7 +7,7 @@ use native.Mathlib.Omega.{arith}
 use lib.ListN.{length, set}
 use borrow.Author.Tests.{le-leb, lt-leb}
 use Rattle.memory.specs.Answers.{Answer, got, bad, busFault}
-use Rattle.memory.specs.Bytes.{Memory, byteAt, number, stored, load, storeAnswer, storeMemory, storeOf, done, wholePages, memoryRefusal}
+use Rattle.memory.specs.Bytes.{Memory, byteAt, number, stored, load, storeAnswer, storeMemory, storeOf, done}
 
 -- the numbers of one, two and four bytes
 number-1 : (m : Memory) (a : ℕ) → number 1 m a ≡ byteAt m a
@@ -60,10 +59,3 @@ module _ (m : Memory) (a : ℕ) (x : Answer) where
         (set (set (set (set m a (v / 256 / 256 / 256 % 256)) (a + 1) (v / 256 / 256 % 256)) (a + 2) (v / 256 % 256)) (a + 3) (v % 256))
         ≡ storeOf 4 m a v
     store-4 h e = store-in 4 _ h e (rw add-zero)
-
--- refusal 1 by the test of its length
-pub whole-refusal : (n : ℕ) (b : Bool) → b ≡ wholePages n → b ≡ true → 0 ≡ memoryRefusal n
-whole-refusal n b e t = rw (sym e ∙ t) refl
-
-pub odd-refusal : (n : ℕ) (b : Bool) → b ≡ wholePages n → b ≡ false → 1 ≡ memoryRefusal n
-odd-refusal n b e t = rw (sym e ∙ t) refl

@@ -1,7 +1,7 @@
 -- Little-endian places: within the word of four bytes, in either order of bytes.
 -- Assumes nothing.
 use mathlib.Core.Path.{_≡_, refl, sym, ap, _∙_}
-use mathlib.Core.Bool.{Bool, true, false}
+use mathlib.Core.Bool.{true}
 use Prim.Native.Nat.{ℕ, zero-le, _+_, _-_, _*_, _/_, _%_, _^_, _≤_, _<_}
 use native.Mathlib.Omega.{arith}
 use lib.Bits.{bitXor, xor-block, xor-zero-r}
@@ -67,22 +67,3 @@ module _ (m : Memory) (a v : ℕ) (aligned : a % 4 ≡ 0) (fits : a + 4 ≤ leng
       → number (bytesOf w) (stored 4 m a v) (placeOf true w (a + i)) ≡ v / 256 ^ i % 256 ^ bytesOf w
   little-number w i e l =
       rw (flipped-part w a i aligned e l) (number-part (bytesOf w) 4 (4 - bytesOf w - i) i m a v (omega arith) fits)
-
--- an aligned operand lies in its word
-pub aligned-inside : (w : Width) (a : ℕ) → a % bytesOf w ≡ 0 → a % 4 + bytesOf w ≤ 4
-aligned-inside Byte a h = omega arith
-aligned-inside Half a h = omega arith
-aligned-inside Word a h = omega arith
-
--- the same of a place in either order
-pub place-word : (b : Bool) (w : Width) (a : ℕ) → placeOf b w a / 4 ≡ a / 4
-place-word true w a = flipped-word w a
-place-word false w a = refl
-
-pub place-aligned : (b : Bool) (w : Width) (a : ℕ) → placeOf b w a % bytesOf w ≡ a % bytesOf w
-place-aligned true w a = flipped-aligned w a
-place-aligned false w a = refl
-
-pub place-twice : (b : Bool) (w : Width) (a : ℕ) → placeOf b w (placeOf b w a) ≡ a
-place-twice true w a = flipped-twice w a
-place-twice false w a = refl

@@ -66,7 +66,3 @@ oddBoard = 1
 
 abbrev pub wholePages : ℕ → Bool
 wholePages n = eqb (n % 4096) 0 && leb 4096 n && leb n (4096 * 4096)
-
--- 0, or the refusal of a request on n bytes of memory
-abbrev pub memoryRefusal : ℕ → ℕ
-memoryRefusal n = cond (wholePages n) 0 oddBoard

@@ -1,8 +1,7 @@
 // Where an operand lies in its word, and which sizes of memory are whole pages.
 use word::Width;
 ghost use mathlib.Core.Path.{_≡_};
-ghost use lib.ListN.{length};
-ghost use Rattle.memory.specs.Bytes.{flipped, placeOf, wholePages, memoryRefusal};
+ghost use Rattle.memory.specs.Bytes.{flipped, placeOf, wholePages};
 
 // The place of an operand in little-endian order.
 pub fn flip(w: Width, a: u32) -> u32
@@ -27,11 +26,4 @@ pub fn whole_pages(n: usize) -> bool
     ensures { λ r. ⌜ r ≡ wholePages n ⌝ }
 {
     (n % 4096 == 0) & (4096 <= n) & (n <= 4096 * 4096)
-}
-
-// The refusal of a request on a lent memory: 0, or 1 for one that is not whole pages.
-pub fn refusal(m: &[u8]) -> u32
-    ensures { λ r. ⌜ r ≡ memoryRefusal (length (now (m .entry))) ⌝ }
-{
-    if whole_pages(m.len()) { 0 } else { 1 }
 }

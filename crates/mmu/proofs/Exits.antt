@@ -17,7 +17,7 @@ use Rattle.mmu.specs.declared.Segment.{Segment}
 use Rattle.mmu.specs.declared.Segment.the-variants.{Outside, Invalid, Nonpaged, Table}
 use Rattle.mmu.specs.declared.Walk.{Walk}
 use Rattle.mmu.specs.declared.Walk.the-variants.{Fault, Direct, Paged}
-use Rattle.mmu.specs.Walk.{faultOf, isWrite, segmentPlace, pagePlace, valid, nonpaged, permits, segmentOf, segment, nonpagedOf, pageOf, walkFrom, walk, withBit, marked, fresh, recorded}
+use Rattle.mmu.specs.Walk.{faultOf, isWrite, segmentPlace, pagePlace, valid, nonpaged, permits, segmentOf, segment, nonpagedOf, pageOf, walkFrom, walk, marked, fresh, recorded}
 use Rattle.mmu.proofs.Marks.{marked-byte}
 use Rattle.mmu.proofs.Shape.{segment-table}
 
@@ -102,25 +102,19 @@ module _ (user : Bool) (stb : ℕ) (k : Kind) (va : ℕ) (m : Memory) (s : Segme
       rw (← is, f, ← load-held 4 m p x l (segment-table stb va m p (sym is ∙ f) .held), ← g) h
 
 -- recording
-set-3 : (b : ℕ) → setOf b 3 ≡ withBit 8 b
-set-3 b = omega arith
-
-set-4 : (b : ℕ) → setOf b 4 ≡ withBit 16 b
-set-4 b = omega arith
-
 module _ (k : Kind) (b : ℕ) (byte : b < 256) (w : Bool) (is : w ≡ isWrite k) (x : ℕ) (e : x ≡ setOf b 3) where
   pub marked-write : w ≡ true → (y z : ℕ) → y ≡ setOf x 4 → z ≡ fieldOf y 0 8 → z ≡ marked k b
   unfolding marked
   marked-write t y z f g =
       let l = marked-byte k b byte in
-      let d : marked k b ≡ y = rw (← is, t, f, set-4 x, e, set-3 b) refl in
+      let d : marked k b ≡ y = rw (← is, t, f, e) refl in
       omega arith
 
   pub marked-other : w ≡ false → (z : ℕ) → z ≡ fieldOf x 0 8 → z ≡ marked k b
   unfolding marked
   marked-other t z g =
       let l = marked-byte k b byte in
-      let d : marked k b ≡ x = rw (← is, t, e, set-3 b) refl in
+      let d : marked k b ≡ x = rw (← is, t, e) refl in
       omega arith
 
 pub past-end : (m : Memory) (i : ℕ) → length m ≤ i → 0 ≡ byteAt m i

@@ -7,11 +7,10 @@ use native.Mathlib.Omega.{arith}
 use lib.Dec.{leb}
 use Rattle.memory.specs.Bytes.{Memory, number, holds}
 use Rattle.mmu.specs.declared.Kind.{Kind}
-use Rattle.mmu.specs.declared.Regime.{Regime}
 use Rattle.mmu.specs.declared.Segment.{Segment}
 use Rattle.mmu.specs.declared.Segment.the-variants.{Outside, Invalid, Nonpaged, Table}
 use Rattle.mmu.specs.declared.Walk.the-variants.{Fault, Direct, Paged}
-use Rattle.mmu.specs.Walk.{faultOf, segmentPlace, pagePlace, valid, nonpaged, permits, segmentOf, segment, nonpagedOf, pageOf, walkFrom, walk, route}
+use Rattle.mmu.specs.Walk.{faultOf, segmentPlace, pagePlace, valid, nonpaged, permits, segmentOf, segment, nonpagedOf, pageOf, walkFrom, walk}
 
 -- a page entry that the first stage gives is a whole word of memory
 pub record InMemory (m : Memory) (p : ℕ) : Type 0 where
@@ -71,11 +70,3 @@ pub walk-paged : (user : Bool) (stb : ℕ) (k : Kind) (va : ℕ) (m : Memory) (p
 walk-paged user stb k va m p pa h =
     let t = walk-table user stb k va m p pa h in
     record { found = t; inside = segment-table stb va m p t }
-
-pub route-paged : (r : Regime) (k : Kind) (va : ℕ) (m : Memory) (p pa : ℕ) → route r k va m ≡ Paged p pa → PageEntry (r .stb) va m p
-unfolding route
-route-paged r k va m p pa h = go (r .translated) h
-  where
-    go : (b : Bool) → cond b (walk (r .user) (r .stb) k va m) (Direct va) ≡ Paged p pa → PageEntry (r .stb) va m p
-    go true q = walk-paged (r .user) (r .stb) k va m p pa q
-    go false q = let z : _≡_ {A = ℕ} 0 1 = cc in absurd (omega arith)

@@ -1,10 +1,10 @@
 -- Chapter 2: how a virtual address becomes a physical one. A walk only looks; recording is a definition of its own.
 -- Assumes nothing.
-use Prim.Native.Nat.{ℕ, _+_, _-_, _*_, _/_, _%_}
+use Prim.Native.Nat.{ℕ, _+_, _*_, _/_, _%_}
 use mathlib.Core.Bool.{Bool, true, false, cond, not, _&&_, _||_}
 use lib.ListN.{set}
 use lib.Dec.{leb, eqb}
-use Rattle.bits.specs.Bits.{bitOf}
+use Rattle.bits.specs.Bits.{bitOf, setOf}
 use Rattle.memory.specs.Answers.{walkFault}
 use Rattle.memory.specs.Bytes.{Memory, byteAt, number, holds}
 use Rattle.mmu.specs.declared.Kind.{Kind}
@@ -89,13 +89,9 @@ route r k va m = cond (r .translated) (walk (r .user) (r .stb) k va m) (Direct v
 
 -- ---- recording: "The reference and modified bits are automatically set" (2.4), in the page entry alone
 
--- a number with bit n set, where p is 2 ^ n
-abbrev pub withBit : ℕ → ℕ → ℕ
-withBit p b = b + p * (1 - b / p % 2)
-
 -- the low byte of a page entry: Referenced is bit 3, Modified bit 4
 unfoldable pub marked : Kind → ℕ → ℕ
-marked k b = cond (isWrite k) (withBit 16 (withBit 8 b)) (withBit 8 b)
+marked k b = cond (isWrite k) (setOf (setOf b 3) 4) (setOf b 3)
 
 -- a bit changes in the page entry at p
 unfoldable pub fresh : Kind → ℕ → Memory → Bool

@@ -89,25 +89,25 @@ module _ (b : Bank) (q : Cache) (g : Regime) (a : ℕ) where
           fill-fourth h es =
               stopped b s q x3 d t3 h es ∙ sym (third-read ∙ bind-high (cpu b q) d x3 (fillWord (cpu b q) g d) last t2 t3 (word-filled d x3 t2 t3 e3) h)
 
-          pub quad-filled : x3 < 2 ^ 32 → (v0 v1 v2 v3 p : ℕ) → v0 ≡ x0 % 2 ^ 32 → v1 ≡ x1 % 2 ^ 32 → v2 ≡ x2 % 2 ^ 32 → v3 ≡ x3 % 2 ^ 32 → p ≡ plusOf a 16 → s ≡ set b 4 p
-              → gave (ended (answerOf x3) s (set q (a / 16 % 16) (v0 ∷ v1 ∷ v2 ∷ v3 ∷ []))) t3 ≡ interpret logging (fillQuad (cpu b q) g a) t
+          pub quad-filled : x3 < 2 ^ 32 → (v0 v1 v2 v3 p i : ℕ) → v0 ≡ x0 % 2 ^ 32 → v1 ≡ x1 % 2 ^ 32 → v2 ≡ x2 % 2 ^ 32 → v3 ≡ x3 % 2 ^ 32 → p ≡ plusOf a 16 → s ≡ set b 4 p → i ≡ a / 16 % 16
+              → gave (ended (answerOf x3) s (set q i (v0 ∷ v1 ∷ v2 ∷ v3 ∷ []))) t3 ≡ interpret logging (fillQuad (cpu b q) g a) t
           unfolding interpret
-          quad-filled h v0 v1 v2 v3 p ev0 ev1 ev2 ev3 ep es =
-              rw (answer-low x3 h, es, ev0, ev1, ev2, ev3, ep)
+          quad-filled h v0 v1 v2 v3 p i ev0 ev1 ev2 ev3 ep es ei =
+              rw (answer-low x3 h, es, ei, ev0, ev1, ev2, ev3, ep)
               (sym (third-read ∙ bind-low (cpu b q) d x3 (fillWord (cpu b q) g d) last t2 t3 (word-filled d x3 t2 t3 e3) h))
 
 -- all four words found by one walk
-pub found-filled : (b : Bank) (q : Cache) (user : Bool) (stb a pa : ℕ) (m : Memory) → Quad user stb Read a m pa → a < 2 ^ 32 → (x0 x1 x2 x3 v0 v1 v2 v3 p : ℕ)
+pub found-filled : (b : Bank) (q : Cache) (user : Bool) (stb a pa : ℕ) (m : Memory) → Quad user stb Read a m pa → a < 2 ^ 32 → (x0 x1 x2 x3 v0 v1 v2 v3 p i : ℕ)
     → ((o : Journal) → gave (answerOf x0) (journaled m o) ≡ logging (read (regimeFor stb user true) Word (a + 0)) (journaled m o)) → x0 < 2 ^ 32
     → ((o : Journal) → gave (answerOf x1) (journaled m o) ≡ logging (read (regimeFor stb user true) Word (a + 4)) (journaled m o)) → x1 < 2 ^ 32
     → ((o : Journal) → gave (answerOf x2) (journaled m o) ≡ logging (read (regimeFor stb user true) Word (a + 8)) (journaled m o)) → x2 < 2 ^ 32
     → ((o : Journal) → gave (answerOf x3) (journaled m o) ≡ logging (read (regimeFor stb user true) Word (a + 12)) (journaled m o)) → x3 < 2 ^ 32
-    → v0 ≡ x0 % 2 ^ 32 → v1 ≡ x1 % 2 ^ 32 → v2 ≡ x2 % 2 ^ 32 → v3 ≡ x3 % 2 ^ 32 → p ≡ plusOf a 16 → (o : Journal)
-    → gave (ended (answerOf x3) (set b 4 p) (set q (a / 16 % 16) (v0 ∷ v1 ∷ v2 ∷ v3 ∷ []))) (journaled m o) ≡ interpret logging (fillQuad (cpu b q) (regimeFor stb user true) a) (journaled m o)
-found-filled b q user stb a pa m k l x0 x1 x2 x3 v0 v1 v2 v3 p e0 h0 e1 h1 e2 h2 e3 h3 f0 f1 f2 f3 ep o =
+    → v0 ≡ x0 % 2 ^ 32 → v1 ≡ x1 % 2 ^ 32 → v2 ≡ x2 % 2 ^ 32 → v3 ≡ x3 % 2 ^ 32 → p ≡ plusOf a 16 → i ≡ a / 16 % 16 → (o : Journal)
+    → gave (ended (answerOf x3) (set b 4 p) (set q i (v0 ∷ v1 ∷ v2 ∷ v3 ∷ []))) (journaled m o) ≡ interpret logging (fillQuad (cpu b q) (regimeFor stb user true) a) (journaled m o)
+found-filled b q user stb a pa m k l x0 x1 x2 x3 v0 v1 v2 v3 p i e0 h0 e1 h1 e2 h2 e3 h3 f0 f1 f2 f3 ep ei o =
     let start = k .start in
     quad-filled b q (regimeFor stb user true) a (journaled m o) x0 (journaled m o) (rw add-zero at (e0 o)) (set b 4 p) h0 (a + 4) (omega arith) x1 (journaled m o) (e1 o)
-    h1 (a + 8) (omega arith) x2 (journaled m o) (e2 o) h2 (a + 12) (omega arith) x3 (journaled m o) (e3 o) h3 v0 v1 v2 v3 p f0 f1 f2 f3 ep refl
+    h1 (a + 8) (omega arith) x2 (journaled m o) (e2 o) h2 (a + 12) (omega arith) x3 (journaled m o) (e3 o) h3 v0 v1 v2 v3 p i f0 f1 f2 f3 ep refl ei
 
 -- the place that low32 takes from the answer of a search
 pub quad-at : (user : Bool) (stb : ℕ) (k : Kind) (a : ℕ) (m : Memory) (x p : ℕ) → x ≡ quadPlace user stb k a m → x < 2 ^ 32 → p ≡ x % 2 ^ 32 → Quad user stb k a m p

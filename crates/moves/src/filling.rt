@@ -1,5 +1,6 @@
 // Filling: quad-words of memory to the stack cache, from MSP up, in a regime given by its numbers.
 use access::faults::set_fault;
+use bits::field;
 use handler::accesses::read;
 use handler::quads::fill_place;
 use memory::answers::low32;
@@ -58,7 +59,7 @@ fn fill_words(
         set_fault(r, x3, d);
         return x3;
     }
-    let i = (a / 16 % 16) as usize;
+    let i = field(a, 4, 4) as usize;
     q[i] = [low32(x0), low32(x1), low32(x2), low32(x3)];
     r[4] = plus(a, 16);
     x3
@@ -91,7 +92,7 @@ fn fill_found(
     let x1 = read_beside(m, stb, user, a, pa, 4);
     let x2 = read_beside(m, stb, user, a, pa, 8);
     let x3 = read_beside(m, stb, user, a, pa, 12);
-    let i = (a / 16 % 16) as usize;
+    let i = field(a, 4, 4) as usize;
     q[i] = [low32(x0), low32(x1), low32(x2), low32(x3)];
     r[4] = plus(a, 16);
     x3

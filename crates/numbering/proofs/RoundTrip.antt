@@ -38,7 +38,8 @@ use Rattle.isa.specs.declared.Answer.the-variants as answer
 use Rattle.isa.specs.Tables.{shortOf, dyadicTable, dyadicOf, monadicTable, monadicOf}
 use Rattle.isa.specs.Decode.{shortEntry, shortAnswer, shortInstruction, decodeShort}
 use Rattle.isa.specs.Encodings.{shortListed, dyadicListed}
-use Rattle.isa.specs.Encode.{rawField, sourcePlace, shortParcel, modeCode, operandRaw, wideLength, prefixLength}
+use Rattle.isa.specs.Encode.{rawField, sourcePlace, shortParcel, operandRaw, wideLength, prefixLength, modeCode}
+use Rattle.isa.proofs.Bounds.{operand-lt}
 use Rattle.roundtrip_short.proofs.Rows as short-rows
 use Rattle.roundtrip.proofs.DyadicTables as dyadics
 use Rattle.roundtrip.proofs.Monadic as monadics
@@ -94,7 +95,7 @@ module _ (q : ShortRow) where
 -- two operands
 operand-back : (o : Operand) → (leb (operandMode o) 16 ≡ true) × (operandIn (operandMode o) (operandRaw o) ≡ o)
 operand-back (General m v) =
-    let h : modeCode m < 16 = dyadics.code-lt (General m v) in
+    let h : modeCode m < 16 = operand-lt (General m v) in
     (le-leb (modeCode m) 16 (omega arith), simp (ne-eqb (modeCode m) 16 (λ e. omega arith), dyadics.mode-back false m v refl))
 operand-back (Register n) = (refl, refl)
 

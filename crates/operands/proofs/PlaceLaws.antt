@@ -1,7 +1,7 @@
 -- The ways out of finding an operand.
 -- Assumes nothing.
 use Prim.Native.Nat.{ℕ}
-use mathlib.Core.Path.{_≡_, refl, sym, ap, _∙_}
+use mathlib.Core.Path.{_≡_, refl, ap}
 use mathlib.Core.Bool.{Bool}
 use mathlib.Core.List.{[]}
 use Rattle.word.specs.declared.Width.the-variants.{Word}
@@ -20,11 +20,10 @@ use Rattle.access.specs.Parts.{ok, onward, _>>=_, done}
 use Rattle.access.specs.Data.{readData}
 use Rattle.access.specs.Code.{valued}
 use Rattle.access.proofs.Bind.{bind}
-use Rattle.exec.specs.Operands.{kindOf, stackAddress, inMemory, located, locate}
+use Rattle.exec.specs.Operands.{kindOf, stackAddress, inMemory, located, locate, absoluteOn}
 use Rattle.alu.specs.declared.OperandKind.{OperandKind}
 use Rattle.alu.specs.declared.OperandKind.the-variants.{Absolute, Offset, Indirect, Constant}
-use Rattle.alu.specs.Modes.{kindFrom, absoluteOn}
-use Rattle.alu.proofs.Laws.{absolute-address}
+use Rattle.alu.specs.Modes.{kindFrom}
 use Rattle.operands.specs.Code.{isConstant, placed}
 
 pub kind-told : (m : Mode) (k j : OperandKind) (x : Bool) → kindFrom k ≡ kindOf m → k ≡ j → x ≡ isConstant (kindFrom j) → x ≡ isConstant (kindOf m)
@@ -34,7 +33,7 @@ module _ (b : Bank) (q : Cache) (w : Wide) (m : Mode) (v : ℕ) (t : Journaled) 
   pub located-absolute : k ≡ Absolute → (a : ℕ) → a ≡ absoluteOn (word b 0) (word b 5) w v → answerOf x ≡ got a
       → gave (placed (General m v) (answerOf x) b q) t ≡ interpret logging (located (cpu b q) w (kindOf m) m v) t
   unfolding located interpret
-  located-absolute h a ea ex = rw (ex, ← ek, h) (ap (λ (y : ℕ). gave (ok (inMemory m y)) t) (ea ∙ sym (absolute-address (cpu b q) w v)))
+  located-absolute h a ea ex = rw (ex, ← ek, h) (ap (λ (y : ℕ). gave (ok (inMemory m y)) t) ea)
 
   pub located-offset : k ≡ Offset → (a : ℕ) → a ≡ stackAddress (cpu b []) v → answerOf x ≡ got a
       → gave (placed (General m v) (answerOf x) b q) t ≡ interpret logging (located (cpu b q) w (kindOf m) m v) t

@@ -10,8 +10,8 @@ use Rattle.laws.proofs.Cases.{by-test}
 use Rattle.machine.specs.Registers.{Bank, traceDue, timer1Due, timer2Due, nmiTaken}
 use Rattle.machine.specs.Cache.{Cache}
 use Rattle.machine.specs.Status.{cpu}
-use Rattle.step.specs.Events.{Event, interrupt}
-use Rattle.pending.specs.Dues.{eventFrom, takenOf, vectorOf}
+use Rattle.step.specs.Events.{Event, interrupt, takenOf, vectorOf}
+use Rattle.pending.specs.Dues.{eventFrom}
 
 -- a number that is none of the three
 level-of : (k : ℕ) → (k ≡ 2 → ⊥) → (k ≡ 0x17 → ⊥) → (k ≡ 0x18 → ⊥) → eventFrom k ≡ interrupt (k - 0x10)

@@ -1,10 +1,9 @@
 -- What is due, by document 01's number, and when nothing can be.
 -- Assumes nothing.
-use Prim.Native.Nat.{ℕ, _+_, _-_, _*_}
+use Prim.Native.Nat.{ℕ, _-_}
 use mathlib.Core.Bool.{Bool, true, false, cond, not, _&&_}
 use lib.Dec.{eqb, ltb}
-use Rattle.machine.specs.Registers.{Bank, traceDue, timer1Due, timer2Due, nmiTaken}
-use Rattle.machine.specs.Status.{Cpu, with}
+use Rattle.machine.specs.Registers.{Bank, traceDue, timer1Due, timer2Due}
 use Rattle.step.specs.Events.{Event, interrupt, timer1, timer2, trace, Due, none, due, isDue, eventCode}
 
 -- the number of what is due; 0 is nothing
@@ -22,20 +21,6 @@ dueFrom k = cond (eqb k 0) none (due (eventFrom k))
 -- no interrupt is asked for, and no timer or trace is due
 abbrev pub quietOf : ℕ → Bank → Bool
 quietOf level b = ltb 6 level && not (isDue b timer1Due) && not (isDue b timer2Due) && not (isDue b traceDue)
-
--- what is taken is no longer due, and input 0 waits
-abbrev pub takenOf : Event → Cpu → Cpu
-takenOf (interrupt n) c = cond (eqb n 0) (with c nmiTaken 1) c
-takenOf timer1 c = with c timer1Due 0
-takenOf timer2 c = with c timer2Due 0
-takenOf trace c = with c traceDue 0
-
--- Table 1-14: where the vector is
-abbrev pub vectorOf : Event → ℕ
-vectorOf (interrupt n) = 16 + 4 * n
-vectorOf timer1 = 44
-vectorOf timer2 = 48
-vectorOf trace = 4
 
 abbrev pub isTrace : Event → Bool
 isTrace (interrupt n) = false

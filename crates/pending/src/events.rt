@@ -7,7 +7,7 @@ ghost use Rattle.bits.specs.Bits.{fieldOf};
 ghost use Rattle.access.specs.Contracts.{Becomes};
 ghost use Rattle.step.specs.Events.{dueOf, looked as lookedOf};
 ghost use Rattle.step.specs.Step.{traceFalls};
-ghost use Rattle.pending.specs.Dues.{dueCode, quietOf, eventFrom, takenOf, vectorOf};
+ghost use Rattle.pending.specs.Dues.{dueCode, quietOf, eventFrom};
 
 // A look that finds another level ends the wait of input 0.
 pub fn looked(b: &mut [u32; 17], level: u32)

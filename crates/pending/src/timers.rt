@@ -5,8 +5,7 @@ use word::sums::plus;
 ghost use mathlib.Core.Path.{_≡_};
 ghost use Rattle.machine.specs.Registers.{timer1, timer2, timer1Due, timer2Due};
 ghost use Rattle.access.specs.Contracts.{Becomes};
-ghost use Rattle.step.specs.Timers.{counts1 as counts1Of, counts2 as counts2Of, ticked, counted as countedOf};
-ghost use Rattle.pending.specs.Counts.{firstCounted, secondCounted};
+ghost use Rattle.step.specs.Timers.{counts1 as counts1Of, counts2 as counts2Of, ticked, counted as countedOf, firstCounted, secondCounted};
 
 // Whether each timer counts a step (Table 1-2), by the CONFIG and the level it began with.
 fn counts1(config: u32, kernel: bool, completed: bool) -> bool

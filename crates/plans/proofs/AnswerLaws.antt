@@ -1,10 +1,11 @@
 -- The answer that a plan stands for: what its instruction does, and how long it is without a prefix.
 -- Assumes nothing.
-use Prim.Native.Nat.{ℕ, _+_, _/_, _%_}
+use Prim.Native.Nat.{ℕ, _/_, _%_}
 use mathlib.Core.Path.{_≡_, refl}
 use mathlib.Core.Bool.{Bool, true, false, cond}
 use native.Mathlib.Omega.{arith}
 use lib.Dec.{ltb, eqb}
+use Rattle.laws.proofs.Cases.{either}
 use Rattle.isa.specs.declared.Answer.{Answer}
 use Rattle.isa.specs.declared.Answer.the-variants.{Is, Illegal, Unimplemented, Trap, Refused}
 use Rattle.isa.specs.declared.Instruction.{Instruction}
@@ -67,10 +68,6 @@ Long n Unimplemented = n ≡ n
 Long n Trap = n ≡ n
 Long n (Refused k) = n ≡ n
 
-either : (n : ℕ) (b : Bool) (x y : Answer) → Long n x → Long n y → Long n (cond b x y)
-either n true x y f g = f
-either n false x y f g = g
-
 pub short-long : (p : ℕ) → Long 1 (decodeShort p)
 unfolding decodeShort
 short-long p = go (shortEntry (shortOf (p / 1024 % 32)) p)
@@ -89,8 +86,8 @@ unfolding decodeDyadic
 dyadic-long w p x y = go (dyadicOf (p / 256 % 64)) (operandFound w (generalOf (p / 16 % 16)) x) (operandFound w (generalOf (p % 16)) y)
   where
     both : (e : DyadicEntry) (s d : Operand) → Long (wideLength w) (dyadicAnswer e w false s d)
-    both (entry.Row r l) s d = either (wideLength w) (legalOf l s d) _ Illegal (omega arith) refl
-    both entry.Unimplemented s d = either (wideLength w) (legalOf OneRegister s d) Unimplemented Illegal refl refl
+    both (entry.Row r l) s d = either (Long (wideLength w)) (legalOf l s d) _ Illegal (omega arith) refl
+    both entry.Unimplemented s d = either (Long (wideLength w)) (legalOf OneRegister s d) Unimplemented Illegal refl refl
     both entry.Unlisted s d = refl
 
     go : (e : DyadicEntry) (f g : OperandFound) → Long (wideLength w) (bothFound e w false f g)
@@ -104,12 +101,12 @@ unfolding decodeMonadic
 monadic-long p v = go (monadicOf (p % 16))
   where
     found-long : (r : MonadicRow) (l : MonadicRule) (m : MonadicModeEntry) → Long 3 (monadicFound r l false m v)
-    found-long r l (place.Is m) = either 3 (monadicLegalOf l m v) _ Illegal refl refl
+    found-long r l (place.Is m) = either (Long 3) (monadicLegalOf l m v) _ Illegal refl refl
     found-long r l place.Unlisted = refl
 
     go : (e : MonadicEntry) → Long 3 (monadicAnswer e false (p / 16 % 16) v)
     go (single.Row r l) = found-long r l (monadicModeOf l (p / 16 % 16))
-    go single.Unimplemented = either 3 (ltb (p / 16 % 16) 0xC) Illegal Unimplemented refl refl
+    go single.Unimplemented = either (Long 3) (ltb (p / 16 % 16) 0xC) Illegal Unimplemented refl refl
     go single.Unlisted = refl
 
 pub wide-long : (n p a b c d : ℕ) → Long (wideLength (formOf p)) (decodeWide false n p a b c d)
@@ -117,5 +114,5 @@ unfolding decodeWide decodeThree
 wide-long n p a b c d = go (ltb p 0xC000)
   where
     go : (u : Bool) → Long (wideLength (cond u Three Five)) (cond u (cond (ltb n 2) (Refused cutText) (cond (eqb (p / 256 % 64) 0) (decodeMonadic false p (joined a b)) (decodeDyadic Three false p a b))) (cond (ltb n 4) (Refused cutText) (decodeDyadic Five false p (joined a b) (joined c d))))
-    go true = either 3 (ltb n 2) (Refused cutText) _ refl (either 3 (eqb (p / 256 % 64) 0) _ _ (monadic-long p (joined a b)) (dyadic-long Three p a b))
-    go false = either 5 (ltb n 4) (Refused cutText) _ refl (dyadic-long Five p (joined a b) (joined c d))
+    go true = either (Long 3) (ltb n 2) (Refused cutText) _ refl (either (Long 3) (eqb (p / 256 % 64) 0) _ _ (monadic-long p (joined a b)) (dyadic-long Three p a b))
+    go false = either (Long 5) (ltb n 4) (Refused cutText) _ refl (dyadic-long Five p (joined a b) (joined c d))

@@ -5,6 +5,7 @@ use mathlib.Core.Path.{_≡_, refl, sym, ap, _∙_}
 use mathlib.Core.Bool.{Bool, true, false, cond}
 use native.Mathlib.Omega.{arith}
 use lib.Dec.{ltb}
+use Rattle.laws.proofs.Cases.{either}
 use Rattle.isa.specs.declared.Answer.{Answer}
 use Rattle.isa.specs.declared.Answer.the-variants.{Is, Illegal, Unimplemented}
 use Rattle.isa.specs.declared.Instruction.the-variants as instruction
@@ -76,8 +77,7 @@ module _ (x : Plan) where
 
 -- an answer that is no instruction, or one with a register, whatever the test
 both-other : (b : Bool) (x y : Answer) → planOf x ≡ Other → planOf y ≡ Other → Other ≡ planOf (cond b x y)
-both-other true x y e f = sym e
-both-other false x y e f = sym f
+both-other b x y e f = sym (either (λ z. planOf z ≡ Other) b x y e f)
 
 module _ (w : Wide) (r : DyadicRow) (l : Rule) where
   row-other : (s d : Operand) → planOf (Is (instruction.Dyadic (record { row = r; wide = w; prefix = false; source = s; destination = d }))) ≡ Other → Other ≡ planOf (dyadicAnswer (entry.Row r l) w false s d)

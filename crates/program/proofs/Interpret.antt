@@ -1,7 +1,7 @@
 -- Laws of programs over any world.
 -- Assumes nothing.
 use mathlib.Core.Path.{_≡_, refl}
-use Rattle.program.specs.Access.{Access, Gave}
+use Rattle.program.specs.Access.{Gave}
 use Rattle.program.specs.Program.{Program, ret, ask, Handler, interpret, after}
 
 -- one program after another is interpreted one after another
@@ -16,11 +16,3 @@ module _ {U W : Type 0} (R : U → W → Type 0) where
   pub record Alike {A : Type 0} (x : Gave U A) (y : Gave W A) : Type 0 where
     pub out : x .out ≡ y .out
     pub world : R (x .world) (y .world)
-
-  pub interpret-alike : (g : Handler U) (h : Handler W) → ((q : Access) (v : U) (w : W) → R v w → Alike (g q v) (h q w))
-      → {A : Type 0} (p : Program A) (v : U) (w : W) → R v w → Alike (interpret g p v) (interpret h p w)
-  unfolding interpret
-  interpret-alike g h s (ret a) v w r = record { out = refl; world = r }
-  interpret-alike g h s (ask q k) v w r =
-      let t = s q v w r in
-      rw (← t .out) (interpret-alike g h s (k (g q v .out)) (g q v .world) (h q w .world) (t .world))

@@ -164,6 +164,6 @@ interpret-undoing Q P n (ret a) t b y s l h = still t (2 * n) y s
 interpret-undoing Q P zero (ask q k) t b y s l h = absurd b
 interpret-undoing Q P (suc n) (ask q k) t b y s l h =
     let u = access-undoing q t y s l (omega arith) in
-    let v = interpret-undoing Q P n (k (logging q t .out)) (logging q t .world) (b .1 (logging q t .out)) (u .bytes) (u .sized)
+    let v = interpret-undoing Q P n (k (logging q t .out)) (logging q t .world) (b .1 (logging q t .out) tt) (u .bytes) (u .sized)
     (ap (λ (x : ℕ). x % 4) (u .length) ∙ l) (omega (arith, u .most)) in
     record { length = v .length ∙ u .length; bytes = v .bytes; sized = v .sized; most = omega (arith, u .most, v .most); undoes = v .undoes ∙ u .undoes }

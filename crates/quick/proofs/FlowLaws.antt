@@ -27,13 +27,14 @@ use Rattle.machine.specs.Registers.{Bank, word, pc, psw, sp, msp, shad, config,
 use Rattle.machine.proofs.BankLaws.{word-set-other}
 use Rattle.machine.specs.Cache.{Cache, cacheWrite}
 use Rattle.machine.specs.Status.{Cpu, cpu, with, csp, spCurrent, cacheOn, cached, regime}
+use Rattle.machine.proofs.BankLaws.{Made}
 use Rattle.access.specs.Parts.{Out, onward, _>>=_, done, replied, request}
 use Rattle.access.specs.Data.{readData, checkStore}
 use Rattle.exec.specs.declared.Monadic.{Monadic}
 use Rattle.exec.specs.Operands.{stackAddress}
 use Rattle.exec.specs.declared.Monadic.the-variants as monadic
-use Rattle.exec.specs.Control.{jumped, nextPc, advanced, withCsp, withGuard, readWord32, jump, jumpIf, call, return, released}
-use Rattle.exec.specs.Stack.{stackTarget, checkMsp, clipped, enterOffset, enterAt, enter, catchTo, catchCurrent, catch}
+use Rattle.exec.specs.Control.{jumped, nextPc, advanced, withCsp, withGuard, readWord32, jump, jumpIf, call, return, released, callTo, readThrough}
+use Rattle.exec.specs.Stack.{stackTarget, checkMsp, clipped, enterOffset, enterAt, enter, catchTo, catchCurrent, catch, enterClipped}
 use Rattle.exec.specs.Execute.{oneOperand, executeMonadic}
 use Rattle.step.specs.Step.{holdsStack}
 use Rattle.run.specs.Run.{isKcall}
@@ -52,10 +53,6 @@ relative-is FlowStackIndirect h = cc
 relative-is FlowRelative h = refl
 relative-is FlowAbsolute h = cc
 
--- a bank made of another, whatever the cache
-abbrev pub Made : Bank → Bank → (Cpu → Cpu) → Type 0
-Made b d f = (q : Cache) → cpu d q ≡ f (cpu b q)
-
 jumped-holds : (b d : Bank) (a : ℕ) → Made b d (λ c. jumped c a) → (q : Cache) → holdsStack (cpu d q) ≡ holdsStack (cpu b q)
 jumped-holds b d a f q = ap holdsStack (f q) ∙ holds-with (cpu b q) pc _ refl refl
 
@@ -66,7 +63,7 @@ Goes p b d = ((q : Cache) → p q ≡ done (cpu d q)) × ((q : Cache) → holdsS
 
 module _ (b d : Bank) (m : MonadicMode) (v : ℕ) where
   pub jump-goes : (f : Bool) → f ≡ isRelative m → f ≡ true → (a : ℕ) → a ≡ plusOf (word b pc) v → Made b d (λ c. jumped c a) → Goes (λ q. jump (cpu b q) m v) b d
-  unfolding jump readWord32 _>>=_ after onward
+  unfolding jump readWord32 _>>=_ after onward readThrough
   jump-goes f ef h a ea g = ((λ q. rw (relative-is m (sym ef ∙ h), ← ea) (ap (λ (c : Cpu). done c) (sym (g q)))), jumped-holds b d a g)
 
   pub taken-goes : (t : Bool) (n : ℕ) → t ≡ true → Goes (λ q. jump (cpu b q) m v) b d → Goes (λ q. jumpIf t (cpu b q) m v n) b d
@@ -86,7 +83,7 @@ cached-current b a h = rw (and-right (bitOf (word b config) 18) (spCurrent b) (a
 module _ (b d : Bank) (q s : Cache) (m : MonadicMode) (v n : ℕ) where
   pub call-done : (f : Bool) → f ≡ isRelative m → f ≡ true → (p : ℕ) → p ≡ word b sp → (g : Bool) → g ≡ cached b p → g ≡ true → p % 4 ≡ 0 → (x : ℕ) → x ≡ nextPc (cpu b []) n → s ≡ cacheWrite 4 q p x
       → (a : ℕ) → a ≡ plusOf (word b pc) v → Made b d (λ c. jumped c a) → (call (cpu b q) m v n ≡ done (cpu d s)) × (holdsStack (cpu d s) ≡ holdsStack (cpu b q))
-  unfolding call readWord32 _>>=_ after onward
+  unfolding call readWord32 _>>=_ after onward callTo readThrough
   call-done f ef h p ep g eg near whole x ex es a ea e =
       (rw (relative-is m (sym ef ∙ h), cached-current b p (sym eg ∙ near), ← ep, ← ex, ← ea, word-written b q p (sym eg ∙ near) whole x, ← es) (ap (λ (c : Cpu). done c) (sym (e s))), jumped-holds b d a e s)
 
@@ -120,9 +117,6 @@ offset-is FlowAbsolute h = cc
 on-current : (b : Bank) → cacheOn b ≡ true → spCurrent b ≡ true
 on-current b h = and-right (bitOf (word b config) 18) (spCurrent b) h
 
-same-number : (n : ℕ) → eqb n n ≡ true
-same-number n = eq-eqb n n refl
-
 module _ (b : Bank) (m : MonadicMode) (v n : ℕ) (f : Bool) (ef : f ≡ isStack m) (hf : f ≡ true) (g : Bool) (eg : g ≡ cacheOn b) (hg : g ≡ true) where
   on : cacheOn b ≡ true
   on = sym eg ∙ hg
@@ -130,7 +124,7 @@ module _ (b : Bank) (m : MonadicMode) (v n : ℕ) (f : Bool) (ef : f ≡ isStack
   pub catch-goes : (d : Bank) (a : ℕ) → a ≡ stackAddress (cpu b []) v → a ≤ word b msp → Made b d (λ c. advanced c n) → Goes (λ q. catch (cpu b q) m v n) b d
   unfolding catch catchCurrent stackTarget catchTo fill checkMsp _>>=_ after onward
   catch-goes d a ea h e =
-      ((λ q. rw (offset-is m (sym ef ∙ hf), on, ← ea, on-current b on, le-ltb (word b msp) a h, same-number (word b msp)) (ap (λ (c : Cpu). done c) (sym (e q)))), (λ q. ap holdsStack (e q) ∙ holds-with (cpu b q) pc _ refl refl))
+      ((λ q. rw (offset-is m (sym ef ∙ hf), on, ← ea, on-current b on, le-ltb (word b msp) a h, eq-eqb (word b msp) (word b msp) refl) (ap (λ (c : Cpu). done c) (sym (e q)))), (λ q. ap holdsStack (e q) ∙ holds-with (cpu b q) pc _ refl refl))
 
   module _ (t : ℕ) (et : t ≡ stackAddress (cpu b []) v / 16 * 16) (l : ℕ) (el : l ≡ minusOf (word b msp) t) (small : l ≤ 256) (k : Memory) (y : ℕ) (ey : gave (answerOf y) (onlyMemory k) ≡ logging (probe (regime b) t) (onlyMemory k)) (hy : y < 2 ^ 32) where
     checked : (q : Cache) → gives (checkStore (cpu b q) t) k y k
@@ -147,7 +141,7 @@ module _ (b : Bank) (m : MonadicMode) (v n : ℕ) (f : Bool) (ef : f ≡ isStack
 
     unchecked : (q : Cache) → checkMsp (cpu b q) (regime b) (word b msp) (clipped (word b msp) (word b msp) t) ≡ done 0
     unfolding checkMsp
-    unchecked q = rw (unclipped, same-number (word b msp)) refl
+    unchecked q = rw (unclipped, eq-eqb (word b msp) (word b msp) refl) refl
 
     -- MSP put where it stands
     pointed : (q : Cache) → with (withCsp (cpu b q) t) msp (clipped (word b msp) (word b msp) t) ≡ withCsp (cpu b q) t
@@ -157,7 +151,7 @@ module _ (b : Bank) (m : MonadicMode) (v n : ℕ) (f : Bool) (ef : f ≡ isStack
 
     module _ (e : Bank) (ce : Made b e (λ c. withCsp c t)) where
       entered : (q : Cache) → gives (enterOffset (cpu b q) t) k (cpu e q) k
-      unfolding enterOffset
+      unfolding enterOffset enterClipped
       entered q =
           gives-then (flush false t 16 (cpu b q)) _ k k k (cpu b q) (cpu e q) (gives-done (flush false t 16 (cpu b q)) (cpu b q) (unmoved q) k)
           (gives-then (checkStore (cpu b q) t) _ k k k y (cpu e q) (checked q)

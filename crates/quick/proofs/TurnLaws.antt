@@ -4,10 +4,11 @@ use Prim.Native.Nat.{ℕ}
 use mathlib.Core.Path.{_≡_, refl, sym, ap, _∙_}
 use mathlib.Core.Bool.{Bool, true, false, not, _||_}
 use borrow.Author.Tests.{ne-eqb}
+use Rattle.laws.proofs.Cases.{or-left, or-right}
 use Rattle.bits.specs.Bits.{bitOf}
 use Rattle.memory.specs.Bytes.{Memory}
 use Rattle.program.specs.Access.{Gave, gave}
-use Rattle.program.specs.Program.{ret, interpret, plain, after}
+use Rattle.program.specs.Program.{ret, interpret, plain}
 use Rattle.program.proofs.Interpret.{interpret-after}
 use Rattle.machine.specs.Registers.{Bank, word, config, psw, sp, msp, nmiTaken, stackHeld}
 use Rattle.machine.specs.Cache.{Cache}
@@ -22,17 +23,9 @@ use Rattle.pending.specs.Dues.{dueCode, dueFrom}
 use Rattle.pending.proofs.Laws.{due-known}
 use Rattle.quick_dyadic.specs.Quick.{gives}
 use Rattle.quick.specs.Performed.{Performed, Calm}
-use Rattle.quick_dyadic.proofs.GiveLaws.{gives-then, gives-done, not-both, set-same}
+use Rattle.quick_dyadic.proofs.GiveLaws.{gives-then, gives-done, set-same}
 
 -- ---- the look
-
-or-left : (a b : Bool) → (a || b) ≡ false → a ≡ false
-or-left false b h = refl
-or-left true b h = h
-
-or-right : (a b : Bool) → (a || b) ≡ false → b ≡ false
-or-right false b h = h
-or-right true b h = not-both (sym h)
 
 pub calm-so : (level : ℕ) (b : Bank) → (level ≡ 0 → ⊥) → word b nmiTaken ≡ 0 → (u v : Bool) → u ≡ bitOf (word b psw) 7 → v ≡ bitOf (word b psw) 8 → (u || v) ≡ false
     → (t : Bool) → t ≡ stackHeld (word b sp) (word b msp) → t ≡ true → (k : ℕ) → k ≡ dueCode (dueOf level b) → k ≡ 0 → Calm level b

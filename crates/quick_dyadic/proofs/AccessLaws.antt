@@ -4,9 +4,7 @@ use Prim.Native.Nat.{ℕ, _%_, _^_, _<_, _≤_}
 use mathlib.Core.Path.{_≡_, refl, sym, ap, _∙_}
 use mathlib.Core.Bool.{Bool, true, false, cond}
 use native.Mathlib.Omega.{arith}
-use borrow.Author.Tests.{eq-eqb}
 use Rattle.word.specs.declared.Width.{Width}
-use Rattle.word.specs.declared.Width.the-variants.{Byte, Half, Word}
 use Rattle.word.specs.Widths.{bytesOf}
 use Rattle.memory.specs.Answers.{Answer, got, bad, answerOf}
 use Rattle.memory.specs.Bytes.{Memory, placeOf, holds, stored, load, storeAnswer, storeMemory, Effect, done as stored-with, storeOf}
@@ -21,7 +19,8 @@ use Rattle.handler.specs.Followed.{regimeFor, fitsWidth}
 use Rattle.handler.specs.Quiet.{quietPlace}
 use Rattle.handler.proofs.QuietLaws.{read-quiet, write-quiet, place-quiet}
 use Rattle.access.specs.Parts.{ok, done, request}
-use Rattle.access.specs.Data.{isAligned, readCached, readMemory, readData, writeCached, writeMemory, writeData}
+use Rattle.access.proofs.DataLaws.{fits-aligned}
+use Rattle.access.specs.Data.{readCached, readMemory, readData, writeCached, writeMemory, writeData}
 use Rattle.quick_dyadic.specs.Quick.{gives}
 use Rattle.quick_dyadic.proofs.GiveLaws.{gives-then, gives-done}
 
@@ -68,11 +67,6 @@ unfolding request interpret
 requested c q a m n x e = rw e refl
 
 -- ---- the cache or memory: p is the place of an operand at a
-
-fits-aligned : (w : Width) (a : ℕ) → fitsWidth w a ≡ isAligned w a
-fits-aligned Byte a = sym (eq-eqb (a % 1) 0 (omega arith))
-fits-aligned Half a = refl
-fits-aligned Word a = refl
 
 module _ (b : Bank) (q : Cache) (w : Width) (a : ℕ) (l : Bool) (el : l ≡ isLittle b) (p : ℕ) (ep : p ≡ placeOf l w a) (m : Memory) (f : Bool) (ef : f ≡ cached b a) where
   place-is : p ≡ placeOf (isLittle b) w a

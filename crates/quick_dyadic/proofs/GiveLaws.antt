@@ -2,15 +2,13 @@
 -- Assumes nothing.
 use Prim.Native.Nat.{ℕ, zero, suc, _^_, _<_}
 use mathlib.Core.Path.{_≡_, refl, sym, ap, _∙_}
-use mathlib.Core.Bool.{Bool, true, false, not}
 use mathlib.Core.List.{List, [], _∷_}
-use native.Mathlib.Omega.{arith}
 use lib.ListN.{getD, set}
 use Rattle.memory.specs.Answers.{got, answerOf}
 use Rattle.memory.specs.Bytes.{Memory}
 use Rattle.memory.proofs.AnswerLaws.{answer-got}
 use Rattle.program.specs.Access.{Gave}
-use Rattle.program.specs.Program.{Program, interpret, plain, after}
+use Rattle.program.specs.Program.{Program, interpret, plain}
 use Rattle.program.proofs.Interpret.{interpret-after}
 use Rattle.access.specs.Parts.{Out, onward, _>>=_, done}
 use Rattle.quick_dyadic.specs.Quick.{gives}
@@ -27,18 +25,6 @@ gives-done p a e m = rw e refl
 -- an answer with a value
 pub good-is : (x v : ℕ) → answerOf x ≡ got v → x < 2 ^ 32 → v ≡ x
 good-is x v e h = let z : got x ≡ got v = sym (answer-got x h) ∙ e in cc
-
--- tests that the code turns round
-pub passed : (b : Bool) → not b ≡ false → b ≡ true
-passed true h = refl
-passed false h = sym h
-
-pub missed : (b : Bool) → not b ≡ true → b ≡ false
-missed false h = refl
-missed true h = sym h
-
-pub not-both : {A : Type 0} → _≡_ {A = Bool} false true → A
-not-both h = let z : _≡_ {A = ℕ} 0 1 = cc in absurd (omega arith)
 
 -- a word put where it stands
 pub set-same : (l : List ℕ) (k v : ℕ) → getD l k 0 ≡ v → set l k v ≡ l

@@ -19,11 +19,10 @@ use Rattle.machine.specs.Cache.{Cache}
 use Rattle.machine.specs.Status.{cpu}
 use Rattle.access.specs.Parts.{ok, _>>=_, done}
 use Rattle.access.specs.Data.{readData, writeData}
-use Rattle.exec.specs.Operands.{Kind, absolute, offset, indirect, constant, kindOf, widthOf, expanded, stackAddress, inMemory, located, locate, readPlace, writePlace}
+use Rattle.exec.specs.Operands.{Kind, absolute, offset, indirect, constant, kindOf, widthOf, expanded, stackAddress, inMemory, located, locate, readPlace, writePlace, absoluteOn}
 use Rattle.alu.specs.declared.OperandKind.{OperandKind}
 use Rattle.alu.specs.declared.OperandKind.the-variants as kind
-use Rattle.alu.specs.Modes.{kindFrom, absoluteOn}
-use Rattle.alu.proofs.Laws.{absolute-address}
+use Rattle.alu.specs.Modes.{kindFrom}
 use Rattle.operands.specs.Code.{isConstant, generalAt, placeAt}
 use Rattle.quick_dyadic.specs.Quick.{gives}
 use Rattle.quick_dyadic.proofs.GiveLaws.{gives-then, gives-done, good-is}
@@ -36,7 +35,7 @@ module _ (b : Bank) (q : Cache) (wide : Wide) (mode : Mode) (v : ℕ) (m : Memor
   pub address-absolute : k ≡ kind.Absolute → (a : ℕ) → a ≡ absoluteOn (word b config) (word b pc) wide v → answerOf x ≡ got a → gives (locate (cpu b q) wide (General mode v)) m (placeAt (General mode v) x) m
   unfolding located interpret
   address-absolute f a ea ex =
-      by-kind absolute (sym e ∙ ap kindFrom f) (ap (λ (n : ℕ). gave (ok (inMemory mode n)) m) (absolute-address (cpu b q) wide v ∙ sym ea ∙ good-is x a ex h))
+      by-kind absolute (sym e ∙ ap kindFrom f) (ap (λ (n : ℕ). gave (ok (inMemory mode n)) m) (sym ea ∙ good-is x a ex h))
 
   pub address-offset : k ≡ kind.Offset → (a : ℕ) → a ≡ stackAddress (cpu b []) v → answerOf x ≡ got a → gives (locate (cpu b q) wide (General mode v)) m (placeAt (General mode v) x) m
   unfolding located interpret

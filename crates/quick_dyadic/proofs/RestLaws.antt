@@ -22,9 +22,8 @@ use Rattle.exec.specs.declared.Task.{Task}
 use Rattle.exec.specs.declared.Task.the-variants.{Compute, Accumulate, Compare, Move}
 use Rattle.exec.specs.Alu.{Result, operate, divides, related, withFlags, withFlag}
 use Rattle.exec.specs.Operands.{kindOf, stackAddress, Place, locate, readPlace, writePlace, writeAccumulator}
-use Rattle.exec.specs.Dyadic.{checkDivisor}
+use Rattle.exec.specs.Dyadic.{checkDivisor, putResult, accumulateResult, computeWith, accumulateWith}
 use Rattle.operands.specs.Code.{generalAt, placeAt}
-use Rattle.dyadic.specs.Code.{putResult, accumulateResult, computeWith, accumulateWith}
 use Rattle.alu.specs.Results.{unpacked}
 use Rattle.step.specs.Step.{holdsStack}
 use Rattle.quick_dyadic.specs.Quick.{gives, isQuick, computeAt, accumulateAt, compareAt, rest}

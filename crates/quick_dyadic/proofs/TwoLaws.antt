@@ -5,13 +5,13 @@ use mathlib.Core.Path.{_≡_, refl, sym, ap, _∙_}
 use mathlib.Core.Bool.{Bool, true, and-false}
 use mathlib.Core.List.{[]}
 use native.Mathlib.Omega.{arith}
+use Rattle.laws.proofs.Cases.{not-both}
 use Rattle.isa.specs.declared.Mode.{Mode}
 use Rattle.isa.specs.declared.Mode.the-variants.{StackWord}
 use Rattle.isa.specs.declared.Operand.{Operand}
 use Rattle.isa.specs.declared.Operand.the-variants.{General}
 use Rattle.isa.specs.declared.Wide.{Wide}
 use Rattle.memory.specs.Bytes.{Memory}
-use Rattle.program.specs.Program.{after}
 use Rattle.machine.specs.Registers.{Bank, pc}
 use Rattle.machine.specs.Cache.{Cache}
 use Rattle.machine.specs.Status.{Cpu, cpu, isUser}
@@ -57,11 +57,11 @@ performed c w (Compute op) s d h = refl
 performed c w (Accumulate op) s d h = refl
 performed c w (Compare r) s d h = refl
 performed c w Move s d h = refl
-performed c w (Interlock op) s d h = let z : _≡_ {A = ℕ} 0 1 = cc in absurd (omega arith)
-performed c w TaggedAdd s d h = let z : _≡_ {A = ℕ} 0 1 = cc in absurd (omega arith)
-performed c w TaggedSub s d h = let z : _≡_ {A = ℕ} 0 1 = cc in absurd (omega arith)
-performed c w MoveAddress s d h = let z : _≡_ {A = ℕ} 0 1 = cc in absurd (omega arith)
-performed c w MoveWords s d h = let z : _≡_ {A = ℕ} 0 1 = cc in absurd (omega arith)
+performed c w (Interlock op) s d h = not-both h
+performed c w TaggedAdd s d h = not-both h
+performed c w TaggedSub s d h = not-both h
+performed c w MoveAddress s d h = not-both h
+performed c w MoveWords s d h = not-both h
 
 -- no register is named
 checked : (c : Cpu) (a b : Mode) (s d : ℕ) → checkRegisters c (General a s) (General b d) ≡ done c

@@ -20,7 +20,7 @@ use Rattle.exec.specs.declared.Task.{Task}
 use Rattle.exec.specs.declared.Task.the-variants.{Compute, Accumulate, Interlock, Compare, TaggedAdd, TaggedSub, Move, MoveAddress, MoveWords}
 use Rattle.exec.specs.Alu.{related, withFlag}
 use Rattle.exec.specs.Operands.{Place, locate, readPlace}
-use Rattle.dyadic.specs.Code.{computeWith, accumulateWith, moveTo}
+use Rattle.exec.specs.Dyadic.{computeWith, accumulateWith, moveTo}
 
 -- a part gives a, and leaves the memory n
 abbrev pub gives : {A : Type 0} → Program (Out A) → Memory → A → Memory → Type 0

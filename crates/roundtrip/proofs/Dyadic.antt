@@ -35,7 +35,8 @@ use Rattle.isa.specs.Decode.{operandValue, operandFound, modeEntry, bothFound, 
 use Rattle.isa.specs.Encodings.{dyadicListed}
 use Rattle.isa.specs.Encode.{withPrefix, operandCode, hasMode, fits, admits, operandRaw, dyadicText, dyadicHasCode, encodeDyadic, encodeAny, lengthOf, wideLength, prefixLength}
 use Rattle.roundtrip.specs.Unused.{registerClear}
-use Rattle.roundtrip.proofs.DyadicTables.{fieldOf, operand-back, code-lt, ruleOf, same-rule, row-back, opcode-lt, RowThere, row-there, ModeThere, mode-there}
+use Rattle.isa.proofs.Bounds.{opcode-lt, operand-lt}
+use Rattle.roundtrip.proofs.DyadicTables.{fieldOf, operand-back, ruleOf, same-rule, row-back, RowThere, row-there, ModeThere, mode-there}
 
 -- ---- the first parcel
 
@@ -86,7 +87,7 @@ module _ (i : DyadicInstruction) (h : dyadicHasCode i ≡ true) where
       let w = i .wide in
       let pre = i .prefix in
       let c : Cut _ _ _ _ = cut w (dyadicListed (i .row) .opcode) (operandCode (i .source)) (operandCode (i .destination))
-      (opcode-lt (i .row)) (code-lt (i .source)) (code-lt (i .destination)) in
+      (opcode-lt (i .row)) (operand-lt (i .source)) (operand-lt (i .destination)) in
       let three = and-left _ (fits w (i .destination)) has-modes in
       let two = and-left _ (fits w (i .source)) three in
       let s = operand-back pre w (i .source) (and-left _ (hasMode pre (i .destination)) two) (and-right (hasMode pre (i .source) && hasMode pre (i .destination)) _ three) in

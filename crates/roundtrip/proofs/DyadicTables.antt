@@ -7,6 +7,7 @@ use native.Mathlib.Nat.{mod-eq-of-lt}
 use native.Mathlib.Omega.{arith}
 use borrow.Author.Tests.{ltb-true, eqb-true}
 use lib.Dec.{leb, lit<}
+use Rattle.laws.proofs.Cases.{not-both}
 use Rattle.laws.proofs.Match.{within}
 use Rattle.word.specs.Widths.{signExtendOf}
 use Rattle.isa.specs.declared.Mode.{Mode}
@@ -31,7 +32,7 @@ use Rattle.isa.specs.Tables.{dyadicOf}
 use Rattle.isa.specs.Legal.{wordInMemory, constant, doubleWord, legalOf}
 use Rattle.isa.specs.Decode.{operandValue, operandFound, modeEntry}
 use Rattle.isa.specs.Encodings.{dyadicListed}
-use Rattle.isa.specs.Encode.{modeCode, operandCode, hasMode, fits, addressCode, movedCode, admits, operandRaw}
+use Rattle.isa.specs.Encode.{operandCode, hasMode, fits, movedCode, admits, operandRaw, modeCode, addressCode}
 
 -- ---- modes and operands
 
@@ -52,18 +53,18 @@ mode-back false AbsoluteWord v h = refl
 mode-back false StackWord v h = refl
 mode-back false IndirectWord v h = refl
 mode-back false Immediate v h = refl
-mode-back true AbsoluteByte v h = let z : _≡_ {A = ℕ} 0 1 = cc in absurd (omega arith)
-mode-back true AbsoluteUbyte v h = let z : _≡_ {A = ℕ} 0 1 = cc in absurd (omega arith)
-mode-back true AbsoluteHalf v h = let z : _≡_ {A = ℕ} 0 1 = cc in absurd (omega arith)
-mode-back true AbsoluteUhalf v h = let z : _≡_ {A = ℕ} 0 1 = cc in absurd (omega arith)
-mode-back true StackByte v h = let z : _≡_ {A = ℕ} 0 1 = cc in absurd (omega arith)
-mode-back true StackUbyte v h = let z : _≡_ {A = ℕ} 0 1 = cc in absurd (omega arith)
-mode-back true StackHalf v h = let z : _≡_ {A = ℕ} 0 1 = cc in absurd (omega arith)
-mode-back true StackUhalf v h = let z : _≡_ {A = ℕ} 0 1 = cc in absurd (omega arith)
-mode-back true IndirectByte v h = let z : _≡_ {A = ℕ} 0 1 = cc in absurd (omega arith)
-mode-back true IndirectUbyte v h = let z : _≡_ {A = ℕ} 0 1 = cc in absurd (omega arith)
-mode-back true IndirectHalf v h = let z : _≡_ {A = ℕ} 0 1 = cc in absurd (omega arith)
-mode-back true IndirectUhalf v h = let z : _≡_ {A = ℕ} 0 1 = cc in absurd (omega arith)
+mode-back true AbsoluteByte v h = not-both h
+mode-back true AbsoluteUbyte v h = not-both h
+mode-back true AbsoluteHalf v h = not-both h
+mode-back true AbsoluteUhalf v h = not-both h
+mode-back true StackByte v h = not-both h
+mode-back true StackUbyte v h = not-both h
+mode-back true StackHalf v h = not-both h
+mode-back true StackUhalf v h = not-both h
+mode-back true IndirectByte v h = not-both h
+mode-back true IndirectUbyte v h = not-both h
+mode-back true IndirectHalf v h = not-both h
+mode-back true IndirectUhalf v h = not-both h
 mode-back true AbsoluteWord v h = refl
 mode-back true StackWord v h = refl
 mode-back true IndirectWord v h = refl
@@ -102,26 +103,7 @@ pub operand-back : (pre : Bool) (w : Wide) (q : Operand) → hasMode pre q ≡ t
 operand-back pre w (General m v) h k =
     ap (λ (e : ModeEntry). operandFound w e (fieldOf w v)) (mode-back pre m v h) ∙ ap (λ (x : ℕ). found.Is (General m x)) (value-back w m v k)
 operand-back true w (Register n) h k = ap (λ (x : ℕ). found.Is (Register x)) (number-back w n (ltb-true n 16 k))
-operand-back false w (Register n) h k = let z : _≡_ {A = ℕ} 0 1 = cc in absurd (omega arith)
-
-pub code-lt : (q : Operand) → operandCode q < 16
-code-lt (General AbsoluteByte v) = lit< tt
-code-lt (General AbsoluteUbyte v) = lit< tt
-code-lt (General AbsoluteHalf v) = lit< tt
-code-lt (General AbsoluteUhalf v) = lit< tt
-code-lt (General StackByte v) = lit< tt
-code-lt (General StackUbyte v) = lit< tt
-code-lt (General StackHalf v) = lit< tt
-code-lt (General StackUhalf v) = lit< tt
-code-lt (General IndirectByte v) = lit< tt
-code-lt (General IndirectUbyte v) = lit< tt
-code-lt (General IndirectHalf v) = lit< tt
-code-lt (General IndirectUhalf v) = lit< tt
-code-lt (General AbsoluteWord v) = lit< tt
-code-lt (General StackWord v) = lit< tt
-code-lt (General IndirectWord v) = lit< tt
-code-lt (General Immediate v) = lit< tt
-code-lt (Register n) = lit< tt
+operand-back false w (Register n) h k = not-both h
 
 -- ---- legality: the decoder's rule of a row is the encoder's
 
@@ -275,43 +257,6 @@ opcode-pos row.Ushr = lit< tt
 opcode-pos row.Ushr3 = lit< tt
 opcode-pos row.Xor = lit< tt
 opcode-pos row.Xor3 = lit< tt
-
-pub opcode-lt : (r : DyadicRow) → dyadicListed r .opcode < 64
-opcode-lt row.Add = lit< tt
-opcode-lt row.Add3 = lit< tt
-opcode-lt row.Addi = lit< tt
-opcode-lt row.And = lit< tt
-opcode-lt row.And3 = lit< tt
-opcode-lt row.Andi = lit< tt
-opcode-lt row.Cmpgt = lit< tt
-opcode-lt row.Cmphi = lit< tt
-opcode-lt row.Cmpeq = lit< tt
-opcode-lt row.Div = lit< tt
-opcode-lt row.Div3 = lit< tt
-opcode-lt row.Dqm = lit< tt
-opcode-lt row.Mov = lit< tt
-opcode-lt row.Mova = lit< tt
-opcode-lt row.Mul = lit< tt
-opcode-lt row.Mul3 = lit< tt
-opcode-lt row.Or = lit< tt
-opcode-lt row.Or3 = lit< tt
-opcode-lt row.Ori = lit< tt
-opcode-lt row.Rem = lit< tt
-opcode-lt row.Rem3 = lit< tt
-opcode-lt row.Shl = lit< tt
-opcode-lt row.Shl3 = lit< tt
-opcode-lt row.Shr = lit< tt
-opcode-lt row.Shr3 = lit< tt
-opcode-lt row.Sub = lit< tt
-opcode-lt row.Sub3 = lit< tt
-opcode-lt row.Tadd = lit< tt
-opcode-lt row.Tsub = lit< tt
-opcode-lt row.Udiv = lit< tt
-opcode-lt row.Urem = lit< tt
-opcode-lt row.Ushr = lit< tt
-opcode-lt row.Ushr3 = lit< tt
-opcode-lt row.Xor = lit< tt
-opcode-lt row.Xor3 = lit< tt
 
 -- the opcodes of the table are those of the lists
 abbrev pub RowThere : DyadicEntry → ℕ → Type 0

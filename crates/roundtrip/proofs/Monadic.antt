@@ -6,9 +6,9 @@ use mathlib.Core.Bool.{Bool, true, false, not}
 use native.Mathlib.Nat.{div-div-eq-div-mul}
 use native.Mathlib.Omega.{arith}
 use borrow.Author.Tests.{ltb-true, ltb-false, le-leb, lt-leb}
-use lib.Dec.{ltb, leb, lit<}
+use lib.Dec.{ltb, leb}
 use Rattle.laws.proofs.Match.{within}
-use Rattle.laws.proofs.Cases.{by-test}
+use Rattle.laws.proofs.Cases.{by-test, not-both}
 use Rattle.isa.specs.declared.MonadicRow.{MonadicRow}
 use Rattle.isa.specs.declared.MonadicRow.the-variants as row
 use Rattle.isa.specs.declared.MonadicRule.{MonadicRule}
@@ -27,6 +27,7 @@ use Rattle.isa.specs.declared.Instruction.the-variants as instruction
 use Rattle.isa.specs.declared.Answer.the-variants.{Is, Illegal, Unimplemented}
 use Rattle.isa.specs.declared.Encoded.the-variants.{Parcels}
 use Rattle.isa.specs.Tables.{monadicOf, monadicModeOf}
+use Rattle.isa.proofs.Bounds.{subcode-lt, single-lt}
 use Rattle.isa.specs.Legal.{monadicLegalOf}
 use Rattle.isa.specs.Decode.{monadicFound, monadicAnswer, decodeMonadic}
 use Rattle.isa.specs.Encodings.{monadicListed}
@@ -57,32 +58,6 @@ row-back row.Ldraa = refl
 row-back row.Popn = refl
 row-back row.Return = refl
 
-pub subcode-lt : (r : MonadicRow) → monadicListed r .subcode < 16
-subcode-lt row.Call = lit< tt
-subcode-lt row.Catch = lit< tt
-subcode-lt row.Enter = lit< tt
-subcode-lt row.Flushpbe = lit< tt
-subcode-lt row.Flushpte = lit< tt
-subcode-lt row.Jmp = lit< tt
-subcode-lt row.Jmpfn = lit< tt
-subcode-lt row.Jmpfy = lit< tt
-subcode-lt row.Jmptn = lit< tt
-subcode-lt row.Jmpty = lit< tt
-subcode-lt row.Kcall = lit< tt
-subcode-lt row.Ldraa = lit< tt
-subcode-lt row.Popn = lit< tt
-subcode-lt row.Return = lit< tt
-
-pub code-lt : (m : MonadicMode) → monadicCode m < 16
-code-lt WordAbsolute = lit< tt
-code-lt WordStack = lit< tt
-code-lt WordIndirect = lit< tt
-code-lt WordImmediate = lit< tt
-code-lt FlowAbsoluteIndirect = lit< tt
-code-lt FlowStackIndirect = lit< tt
-code-lt FlowRelative = lit< tt
-code-lt FlowAbsolute = lit< tt
-
 positive : (v : ℕ) → ltb v 0x8000_0000 ≡ not (leb 0x8000_0000 v)
 positive v =
     by-test (ltb v 0x8000_0000)
@@ -106,42 +81,42 @@ taken Word32 WordAbsolute v h = record { place = refl; legal = refl }
 taken Word32 WordStack v h = record { place = refl; legal = refl }
 taken Word32 WordIndirect v h = record { place = refl; legal = refl }
 taken Word32 WordImmediate v h = record { place = refl; legal = refl }
-taken Word32 FlowAbsoluteIndirect v h = let z : _≡_ {A = ℕ} 0 1 = cc in absurd (omega arith)
-taken Word32 FlowStackIndirect v h = let z : _≡_ {A = ℕ} 0 1 = cc in absurd (omega arith)
-taken Word32 FlowRelative v h = let z : _≡_ {A = ℕ} 0 1 = cc in absurd (omega arith)
-taken Word32 FlowAbsolute v h = let z : _≡_ {A = ℕ} 0 1 = cc in absurd (omega arith)
-taken Flow32 WordAbsolute v h = let z : _≡_ {A = ℕ} 0 1 = cc in absurd (omega arith)
-taken Flow32 WordStack v h = let z : _≡_ {A = ℕ} 0 1 = cc in absurd (omega arith)
-taken Flow32 WordIndirect v h = let z : _≡_ {A = ℕ} 0 1 = cc in absurd (omega arith)
-taken Flow32 WordImmediate v h = let z : _≡_ {A = ℕ} 0 1 = cc in absurd (omega arith)
+taken Word32 FlowAbsoluteIndirect v h = not-both h
+taken Word32 FlowStackIndirect v h = not-both h
+taken Word32 FlowRelative v h = not-both h
+taken Word32 FlowAbsolute v h = not-both h
+taken Flow32 WordAbsolute v h = not-both h
+taken Flow32 WordStack v h = not-both h
+taken Flow32 WordIndirect v h = not-both h
+taken Flow32 WordImmediate v h = not-both h
 taken Flow32 FlowAbsoluteIndirect v h = record { place = refl; legal = refl }
 taken Flow32 FlowStackIndirect v h = record { place = refl; legal = refl }
 taken Flow32 FlowRelative v h = record { place = refl; legal = refl }
 taken Flow32 FlowAbsolute v h = record { place = refl; legal = refl }
-taken Abs32 WordAbsolute v h = let z : _≡_ {A = ℕ} 0 1 = cc in absurd (omega arith)
-taken Abs32 WordStack v h = let z : _≡_ {A = ℕ} 0 1 = cc in absurd (omega arith)
-taken Abs32 WordIndirect v h = let z : _≡_ {A = ℕ} 0 1 = cc in absurd (omega arith)
-taken Abs32 WordImmediate v h = let z : _≡_ {A = ℕ} 0 1 = cc in absurd (omega arith)
-taken Abs32 FlowAbsoluteIndirect v h = let z : _≡_ {A = ℕ} 0 1 = cc in absurd (omega arith)
-taken Abs32 FlowStackIndirect v h = let z : _≡_ {A = ℕ} 0 1 = cc in absurd (omega arith)
+taken Abs32 WordAbsolute v h = not-both h
+taken Abs32 WordStack v h = not-both h
+taken Abs32 WordIndirect v h = not-both h
+taken Abs32 WordImmediate v h = not-both h
+taken Abs32 FlowAbsoluteIndirect v h = not-both h
+taken Abs32 FlowStackIndirect v h = not-both h
 taken Abs32 FlowRelative v h = record { place = refl; legal = refl }
 taken Abs32 FlowAbsolute v h = record { place = refl; legal = refl }
-taken Stk32 WordAbsolute v h = let z : _≡_ {A = ℕ} 0 1 = cc in absurd (omega arith)
+taken Stk32 WordAbsolute v h = not-both h
 taken Stk32 WordStack v h = record { place = refl; legal = sym (positive v) ∙ h }
-taken Stk32 WordIndirect v h = let z : _≡_ {A = ℕ} 0 1 = cc in absurd (omega arith)
-taken Stk32 WordImmediate v h = let z : _≡_ {A = ℕ} 0 1 = cc in absurd (omega arith)
-taken Stk32 FlowAbsoluteIndirect v h = let z : _≡_ {A = ℕ} 0 1 = cc in absurd (omega arith)
-taken Stk32 FlowStackIndirect v h = let z : _≡_ {A = ℕ} 0 1 = cc in absurd (omega arith)
-taken Stk32 FlowRelative v h = let z : _≡_ {A = ℕ} 0 1 = cc in absurd (omega arith)
-taken Stk32 FlowAbsolute v h = let z : _≡_ {A = ℕ} 0 1 = cc in absurd (omega arith)
+taken Stk32 WordIndirect v h = not-both h
+taken Stk32 WordImmediate v h = not-both h
+taken Stk32 FlowAbsoluteIndirect v h = not-both h
+taken Stk32 FlowStackIndirect v h = not-both h
+taken Stk32 FlowRelative v h = not-both h
+taken Stk32 FlowAbsolute v h = not-both h
 taken EnterWord32 WordAbsolute v h = record { place = refl; legal = refl }
 taken EnterWord32 WordStack v h = record { place = refl; legal = sym (negative v) ∙ h }
 taken EnterWord32 WordIndirect v h = record { place = refl; legal = refl }
 taken EnterWord32 WordImmediate v h = record { place = refl; legal = refl }
-taken EnterWord32 FlowAbsoluteIndirect v h = let z : _≡_ {A = ℕ} 0 1 = cc in absurd (omega arith)
-taken EnterWord32 FlowStackIndirect v h = let z : _≡_ {A = ℕ} 0 1 = cc in absurd (omega arith)
-taken EnterWord32 FlowRelative v h = let z : _≡_ {A = ℕ} 0 1 = cc in absurd (omega arith)
-taken EnterWord32 FlowAbsolute v h = let z : _≡_ {A = ℕ} 0 1 = cc in absurd (omega arith)
+taken EnterWord32 FlowAbsoluteIndirect v h = not-both h
+taken EnterWord32 FlowStackIndirect v h = not-both h
+taken EnterWord32 FlowRelative v h = not-both h
+taken EnterWord32 FlowAbsolute v h = not-both h
 
 abbrev pub RowThere : MonadicEntry → ℕ → Type 0
 RowThere (entry.Row r u) k = (monadicListed r .subcode ≡ k) × (ruleOf (monadicListed r .operand) ≡ u)
@@ -182,7 +157,7 @@ monadic-back i h =
     let c = monadicListed (i .row) .operand in
     let k = monadicCode (i .mode) in
     let j = monadicListed (i .row) .subcode in
-    let lk : k < 16 = code-lt (i .mode) in
+    let lk : k < 16 = single-lt (i .mode) in
     let lj : j < 16 = subcode-lt (i .row) in
     let ek : firstOf k j / 16 % 16 ≡ k = omega arith in
     let ej : firstOf k j % 16 ≡ j = omega arith in

@@ -1,6 +1,6 @@
 -- The long forms as texts: prefix, first parcel and operand fields, with anything after them.
 -- Assumes nothing.
-use Prim.Native.Nat.{ℕ, _+_, _/_, _%_, _<_}
+use Prim.Native.Nat.{ℕ, _/_, _%_, _<_}
 use mathlib.Core.Path.{_≡_, refl, ap, ap₂, subst, _∙_}
 use mathlib.Core.Bool.{Bool, true, false}
 use mathlib.Core.List.{List, _++_}
@@ -18,7 +18,8 @@ use Rattle.isa.specs.Encodings.{dyadicListed, monadicListed}
 use Rattle.isa.specs.Encode.{coded, withPrefix, text3, dyadicText, operandCode, operandRaw, dyadicHasCode, encodeDyadic, monadicCode, takes, encodeMonadic}
 use Rattle.roundtrip.specs.Unused.{parcelsOf}
 use Rattle.roundtrip.proofs.Lengths.{bare-three, bare-five, prefixed-three, prefixed-five, three-dyadic, three-monadic}
-use Rattle.roundtrip.proofs.DyadicTables.{fieldOf, code-lt, opcode-lt, opcode-pos}
+use Rattle.isa.proofs.Bounds.{opcode-lt, subcode-lt, operand-lt, single-lt}
+use Rattle.roundtrip.proofs.DyadicTables.{fieldOf, opcode-pos}
 use Rattle.roundtrip.proofs.Dyadic as dyadic
 use Rattle.roundtrip.proofs.Monadic as monadic
 
@@ -62,7 +63,7 @@ dyadic-decodes i t rest e =
     let g = given (dyadicHasCode i) _ t e in
     subst (λ (u : Text). decodeOf (textOf (parcelsOf u ++ rest)) ≡ Is (instruction.Dyadic i)) (g .text)
     (texted (dyadicListed (i .row) .opcode) (operandCode (i .source)) (operandCode (i .destination)) (operandRaw (i .source)) (operandRaw (i .destination))
-    (opcode-lt (i .row)) (opcode-pos (i .row)) (code-lt (i .source)) (code-lt (i .destination)) rest (i .prefix) (i .wide)
+    (opcode-lt (i .row)) (opcode-pos (i .row)) (operand-lt (i .source)) (operand-lt (i .destination)) rest (i .prefix) (i .wide)
     ∙ dyadic.dyadic-back i (g .holds))
 
 module _ (k j v : ℕ) (hk : k < 16) (hj : j < 16) (rest : List ℕ) where
@@ -85,5 +86,5 @@ unfolding encodeMonadic
 monadic-decodes i t rest e =
     let g = given (takes (monadicListed (i .row) .operand) (i .mode) (i .value)) _ t e in
     subst (λ (u : Text). decodeOf (textOf (parcelsOf u ++ rest)) ≡ Is (instruction.Monadic i)) (g .text)
-    (single (monadicCode (i .mode)) (monadicListed (i .row) .subcode) (i .value) (monadic.code-lt (i .mode)) (monadic.subcode-lt (i .row)) rest (i .prefix)
+    (single (monadicCode (i .mode)) (monadicListed (i .row) .subcode) (i .value) (single-lt (i .mode)) (subcode-lt (i .row)) rest (i .prefix)
     ∙ monadic.monadic-back i (g .holds))

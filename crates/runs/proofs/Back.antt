@@ -9,10 +9,9 @@ use Rattle.memory.specs.Bytes.{Memory}
 use Rattle.program.specs.Access.{Gave, gave}
 use Rattle.program.specs.Program.{Program, interpret, plain}
 use Rattle.program.specs.Journal.{Journal, count, undone, undo, Journaled, journaled, logging}
-use Rattle.program.proofs.Bounded.{Bounded}
+use Rattle.program.proofs.Bounded.{Bounded, Any}
 use Rattle.program.proofs.Bytes.{Bytes}
 use Rattle.program.proofs.Undoing.{interpret-memory, Undoing, interpret-undoing}
-use Rattle.bounds.proofs.Within.{Any}
 
 pub plainly : {A : Type 0} (p : Program A) (a : A) (t u : Journaled) → gave a u ≡ interpret logging p t → gave a (u .memory) ≡ interpret plain p (t .memory)
 plainly {A = A} p a t u e =

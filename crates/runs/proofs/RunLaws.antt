@@ -9,7 +9,7 @@ use borrow.Author.Tests.{ne-eqb, le-leb, lt-leb, eqb-true}
 use Rattle.laws.proofs.Cases.{and-left}
 use Rattle.memory.specs.Bytes.{Memory, wholePages}
 use Rattle.program.specs.Program.{interpret, plain}
-use Rattle.program.proofs.Bounded.{bounded-result}
+use Rattle.program.proofs.Bounded.{bounded-result, Any}
 use Rattle.machine.specs.declared.Machine.{Machine}
 use Rattle.machine.specs.Registers.{Bank, goodBank}
 use Rattle.machine.specs.Cache.{Cache, quadsOf}
@@ -21,7 +21,6 @@ use Rattle.access.specs.Parts.{Out, ok, stop}
 use Rattle.step.specs.Events.{Due, none, due, dueOf, looked}
 use Rattle.step.specs.Step.{tracesAt, traceFalls, stepped, step, holdsStack}
 use Rattle.run.specs.Run.{Board, board, Turn, goes, ends, unlessLost, turn, Tried, tried, fetched, confinedAttempt, afterTry, confinedFor, confinedTurn, turnOf, Ended, ended, going, advance, refusal, unlessRefused, run}
-use Rattle.bounds.proofs.Within.{Any}
 use Rattle.bounds.proofs.Steps.{Leaves}
 use Rattle.bounds.proofs.Shapes.{Shaped, step-shaped, confined-shaped, looked-shaped, trace-shaped, timed-shaped}
 use Rattle.runs.specs.Code.{turned, endedOf}

@@ -1,6 +1,6 @@
 -- The ways out of a turn.
 -- Assumes nothing.
-use Prim.Native.Nat.{ℕ, _+_, _-_, _*_, _/_, _%_, _^_, _<_, _≤_}
+use Prim.Native.Nat.{ℕ, _+_, _*_, _/_, _%_, _^_, _<_, _≤_}
 use mathlib.Core.Path.{_≡_, refl, sym, ap, _∙_}
 use mathlib.Core.Bool.{Bool, true, false, cond, not}
 use native.Mathlib.Omega.{arith}
@@ -25,7 +25,7 @@ use Rattle.step.specs.Timers.{counted}
 use Rattle.step.specs.Step.{tracesAt, traceFalls, Stepped, stepped, step, holdsStack}
 use Rattle.run.specs.Run.{Board, board, Turn, goes, ends, eventDue, unlessLost, afterStep, turn, Tried, tried, fetched, confinedAttempt, afterTry, tryTurn, confinedFor, confinedTurn, turnOf}
 use Rattle.pending.specs.Dues.{dueCode, eventFrom, dueFrom}
-use Rattle.control.proofs.FlowLaws.{Made}
+use Rattle.machine.proofs.BankLaws.{Made}
 use Rattle.attempts.specs.Code.{attemptOf, attemptedOut, triedOut}
 use Rattle.attempts.proofs.AttemptLaws.{confined-attempted}
 use Rattle.steps.proofs.EventLaws.{due-is, due-small, due-event}

@@ -23,7 +23,7 @@ use Rattle.exec.specs.declared.Monadic.{Monadic}
 use Rattle.exec.specs.declared.Monadic.the-variants as monadic
 use Rattle.exec.specs.Execute.{executeMonadic}
 use Rattle.control.proofs.Ways.{finished}
-use Rattle.control.proofs.FlowLaws.{Made}
+use Rattle.machine.proofs.BankLaws.{Made}
 
 module _ (b : Bank) (q : Cache) (o : Monadic) (k : MonadicMode) (v n : ℕ) (t : Journaled) where
   module _ (g : Gave Journaled (Out Cpu)) where

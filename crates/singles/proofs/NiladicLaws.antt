@@ -20,7 +20,7 @@ use Rattle.exec.specs.declared.Niladic.{Niladic}
 use Rattle.exec.specs.declared.Niladic.the-variants as niladic
 use Rattle.exec.specs.Execute.{executeNiladic}
 use Rattle.control.proofs.Ways.{finished}
-use Rattle.control.proofs.FlowLaws.{Made}
+use Rattle.machine.proofs.BankLaws.{Made}
 
 module _ (b : Bank) (q : Cache) (p : Program (Out Cpu)) (t : Journaled) (z : Bool) (ez : z ≡ isUser b) where
   pub user-stopped : z ≡ true → (x : ℕ) → answerOf x ≡ bad 5 → gave (ended (answerOf x) b q) t ≡ interpret logging (privileged (cpu b q) p) t

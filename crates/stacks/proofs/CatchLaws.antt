@@ -23,7 +23,7 @@ use Rattle.exec.specs.Control.{advanced}
 use Rattle.exec.specs.Stack.{stackTarget, checkMsp, quadWords, catchTo, catchCurrent, catch}
 use Rattle.control.proofs.Ways.{finished}
 use Rattle.control.proofs.WordLaws.{Valued}
-use Rattle.control.proofs.FlowLaws.{Made}
+use Rattle.machine.proofs.BankLaws.{Made}
 
 -- ---- the cache filled: d and p are the bank and the cache after it
 

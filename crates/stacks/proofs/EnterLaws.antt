@@ -22,11 +22,10 @@ use Rattle.access.specs.Code.{ended, valued}
 use Rattle.access.specs.Moves.{flush}
 use Rattle.access.proofs.PartLaws.{goes, stops-ended, ended-goes, ended-stops}
 use Rattle.exec.specs.Control.{withCsp, withGuard, advanced}
-use Rattle.exec.specs.Stack.{stackTarget, checkMsp, quadWords, clipped, enterPlain, enterUncached, enterEmpty, enterOffset, enterAt, enter}
+use Rattle.exec.specs.Stack.{stackTarget, checkMsp, quadWords, clipped, enterPlain, enterUncached, enterEmpty, enterOffset, enterAt, enter, enterClipped}
 use Rattle.control.proofs.Ways.{finished}
 use Rattle.control.proofs.WordLaws.{Valued}
-use Rattle.control.proofs.FlowLaws.{Made}
-use Rattle.stacks.specs.Code.{enterClipped}
+use Rattle.machine.proofs.BankLaws.{Made}
 
 -- ---- nothing moved: s is the bank after the check, d with the stack pointer set
 
@@ -164,19 +163,19 @@ module _ (b : Bank) (q : Cache) (k : MonadicMode) (v n x : ℕ) (s : Bank) (t u 
   unfolding enter
   enter-first h = stops-ended (λ v. v) s q x (stackTarget (cpu b q) k v) then-enter t u (e .0) h
 
-  module _ (h : x < 2 ^ 32) (a : ℕ) (ea : a ≡ x % 2 ^ 32) (y : ℕ) (d : Bank) (w : Journaled) (f : gave (ended (answerOf y) d q) w ≡ interpret logging (enterAt (cpu s q) k (a / 16 * 16)) u) where
-    same-target : interpret logging (enterAt (cpu s q) k (a / 16 * 16) >>= then-guard) u ≡ interpret logging (then-enter (x % 2 ^ 32)) u
-    same-target = rw (e .1 h, ea) refl
+  module _ (h : x < 2 ^ 32) (a : ℕ) (ea : a ≡ x % 2 ^ 32) (z : ℕ) (ez : z ≡ a / 16 * 16) (y : ℕ) (d : Bank) (w : Journaled) (f : gave (ended (answerOf y) d q) w ≡ interpret logging (enterAt (cpu s q) k z) u) where
+    same-target : interpret logging (enterAt (cpu s q) k z >>= then-guard) u ≡ interpret logging (then-enter (x % 2 ^ 32)) u
+    same-target = rw (e .1 h, ez, ea) refl
 
-    targeted : interpret logging (enter (cpu b q) k v n) t ≡ interpret logging (enterAt (cpu s q) k (a / 16 * 16) >>= then-guard) u
+    targeted : interpret logging (enter (cpu b q) k v n) t ≡ interpret logging (enterAt (cpu s q) k z >>= then-guard) u
     unfolding enter
     targeted = goes (λ v. v) s q x (stackTarget (cpu b q) k v) then-enter t u (e .0) h ∙ sym same-target
 
     pub enter-second : 2 ^ 32 ≤ y → gave (ended (answerOf y) d q) w ≡ interpret logging (enter (cpu b q) k v n) t
-    enter-second l = ended-stops d q y (enterAt (cpu s q) k (a / 16 * 16)) then-guard u w f l ∙ sym targeted
+    enter-second l = ended-stops d q y (enterAt (cpu s q) k z) then-guard u w f l ∙ sym targeted
 
     pub enter-done : y < 2 ^ 32 → (r : Bank) → Made d r (λ c. withGuard c true) → (i : Bank) → Made r i (λ c. advanced c n) → gave (ended (answerOf y) i q) w ≡ interpret logging (enter (cpu b q) k v n) t
     unfolding interpret
     enter-done l r er i ei =
         finished y i q (advanced (withGuard (cpu d q) true) n) w l (ei q ∙ ap (λ (c : Cpu). advanced c n) (er q))
-        ∙ sym (targeted ∙ ended-goes d q y (enterAt (cpu s q) k (a / 16 * 16)) then-guard u w f l)
+        ∙ sym (targeted ∙ ended-goes d q y (enterAt (cpu s q) k z) then-guard u w f l)

@@ -21,10 +21,9 @@ use Rattle.access.specs.Data.{readFrame}
 use Rattle.access.specs.Code.{ended}
 use Rattle.access.proofs.PartLaws.{ended-goes, ended-stops}
 use Rattle.exec.specs.Stack.{catchTo}
-use Rattle.exec.specs.Frames.{restoredRegime, cretFill, cret, returned}
+use Rattle.exec.specs.Frames.{restoredRegime, cretFill, cret, returned, cretCaught, cretFrom, cretAfter}
 use Rattle.control.proofs.Ways.{finished, loaded-on, load-stopped}
-use Rattle.control.proofs.FlowLaws.{Made}
-use Rattle.stacks.specs.Code.{cretCaught, cretFrom, cretAfter}
+use Rattle.machine.proofs.BankLaws.{Made}
 
 -- ---- the cache filled
 
@@ -52,12 +51,12 @@ module _ (b : Bank) (q : Cache) (n p : ℕ) (y z : Bool) (ey : y ≡ isUser b) (
 
 module _ (b : Bank) (q : Cache) (m p : ℕ) (t : Journaled) (n : ℕ) (en : n ≡ kept msp m) (y : Bool) (ey : y ≡ bitOf p 9) where
   pub fill-left : y ≡ false → gave (ended (answerOf 0) (set b 4 n) q) t ≡ interpret logging (cretFill (cpu b q) m p) t
-  unfolding cretFill interpret
+  unfolding cretFill interpret cretCaught
   fill-left h = rw (sym ey ∙ h, ← en) (finished 0 (set b 4 n) q (with (cpu b q) msp n) t (omega arith) refl)
 
   module _ (h : y ≡ true) (z : Bool) (ez : z ≡ bitOf (word b config) 18) where
     pub fill-off : z ≡ false → gave (ended (answerOf 0) b q) t ≡ interpret logging (cretFill (cpu b q) m p) t
-    unfolding cretFill interpret
+    unfolding cretFill interpret cretCaught
     fill-off k = rw (sym ey ∙ h, sym ez ∙ k) (finished 0 b q (cpu b q) t (omega arith) refl)
 
     pub fill-on : z ≡ true → (g : Gave Journaled (Out Cpu)) → g ≡ interpret logging (cretCaught (cpu b q) n p) t → g ≡ interpret logging (cretFill (cpu b q) m p) t

@@ -5,6 +5,7 @@ use crate::targets::stack_target;
 use bank::flow::advanced;
 use bank::flow::with_csp;
 use bank::status::with_guard;
+use bits::clear_low;
 use isa::MonadicMode;
 use machine::status::cache_on;
 use machine::status::is_user;
@@ -17,8 +18,7 @@ use word::sums::minus;
 use word::sums::plus;
 ghost use mathlib.Core.Path.{_≡_};
 ghost use Rattle.access.specs.Contracts.{Ends, EndsReadOnly};
-ghost use Rattle.exec.specs.Stack.{enterPlain, enterUncached, enterEmpty, enterOffset, enterAt, clipped as clippedOf, enter as enterOf};
-ghost use Rattle.stacks.specs.Code.{enterClipped};
+ghost use Rattle.exec.specs.Stack.{enterPlain, enterUncached, enterEmpty, enterOffset, enterAt, clipped as clippedOf, enter as enterOf, enterClipped};
 
 // The interrupt stack is current: nothing is moved.
 fn enter_plain(m: &[u8], r: &mut [u32; 17], target: u32) -> u64
@@ -154,7 +154,7 @@ pub fn enter(
     if 0x1_0000_0000 <= x {
         return x;
     }
-    let target = low32(x) / 16 * 16;
+    let target = clear_low(low32(x), 4);
     let y = enter_at(m, journal, q, r, mode, target);
     if 0x1_0000_0000 <= y {
         return y;

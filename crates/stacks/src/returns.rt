@@ -8,8 +8,7 @@ use machine::status::is_user;
 use memory::answers::low32;
 use word::sums::plus;
 ghost use Rattle.access.specs.Contracts.{Ends};
-ghost use Rattle.exec.specs.Frames.{cretFill, cret as cretOf};
-ghost use Rattle.stacks.specs.Code.{cretCaught, cretFrom, cretAfter};
+ghost use Rattle.exec.specs.Frames.{cretFill, cret as cretOf, cretCaught, cretFrom, cretAfter};
 
 // The cache filled to MSP t, in the regime that the PSW p restores, and MSP left there.
 fn cret_caught(

@@ -53,9 +53,22 @@ eventCode timer1 = 0x17
 eventCode timer2 = 0x18
 eventCode trace = traceException
 
--- Table 1-14; what is taken is no longer due
+-- what is taken is no longer due, and input 0 waits
+abbrev pub takenOf : Event → Cpu → Cpu
+takenOf (interrupt n) c = cond (eqb n 0) (with c nmiTaken 1) c
+takenOf timer1 c = with c timer1Due 0
+takenOf timer2 c = with c timer2Due 0
+takenOf trace c = with c traceDue 0
+
+-- Table 1-14: where the vector is
+abbrev pub vectorOf : Event → ℕ
+vectorOf (interrupt n) = 16 + 4 * n
+vectorOf timer1 = 44
+vectorOf timer2 = 48
+vectorOf trace = 4
+
 unfoldable pub take : Cpu → Event → Program (Out Cpu)
-take c (interrupt n) = interruptSequence (cond (eqb n 0) (with c nmiTaken 1) c) (16 + 4 * n)
-take c timer1 = interruptSequence (with c timer1Due 0) 44
-take c timer2 = interruptSequence (with c timer2Due 0) 48
-take c trace = exceptionSequence (with c traceDue 0) traceException
+take c (interrupt n) = interruptSequence (takenOf (interrupt n) c) (vectorOf (interrupt n))
+take c timer1 = interruptSequence (takenOf timer1 c) (vectorOf timer1)
+take c timer2 = interruptSequence (takenOf timer2 c) (vectorOf timer2)
+take c trace = exceptionSequence (takenOf trace c) traceException

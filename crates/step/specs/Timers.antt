@@ -24,8 +24,11 @@ ticked c k due on = overflowed (eqb (plusOf (reg c k) 1) 0 && on) (with c k (plu
     overflowed : Bool → Cpu → Cpu
     overflowed b d = cond b (with d due 1) d
 
+abbrev pub firstCounted : ℕ → Bool → Bool → Cpu → Cpu
+firstCounted config kernel completed c = cond (counts1 config kernel completed) (ticked c timer1 timer1Due (bitOf config 24)) c
+
+abbrev pub secondCounted : ℕ → Bool → Bool → Cpu → Cpu
+secondCounted config kernel completed c = cond (counts2 config kernel completed) (ticked c timer2 timer2Due (bitOf config 31)) c
+
 unfoldable pub counted : ℕ → Bool → Bool → Cpu → Cpu
-counted config kernel completed c = second (cond (counts1 config kernel completed) (ticked c timer1 timer1Due (bitOf config 24)) c)
-  where
-    second : Cpu → Cpu
-    second d = cond (counts2 config kernel completed) (ticked d timer2 timer2Due (bitOf config 31)) d
+counted config kernel completed c = secondCounted config kernel completed (firstCounted config kernel completed c)

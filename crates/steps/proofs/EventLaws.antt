@@ -18,12 +18,12 @@ use Rattle.machine.specs.Status.{Cpu, cpu}
 use Rattle.access.specs.Parts.{Out}
 use Rattle.access.specs.Code.{ended}
 use Rattle.exec.specs.Frames.{interruptSequence, exceptionSequence, reset}
-use Rattle.step.specs.Events.{Event, interrupt, timer1, timer2, trace, Due, none, due, isDue, priority, dueOf, take}
+use Rattle.step.specs.Events.{Event, interrupt, timer1, timer2, trace, Due, none, due, isDue, priority, dueOf, take, takenOf, vectorOf}
 use Rattle.step.specs.Step.{stepped, settled, eventStep, exceptionStep, instructionStep, stepFor}
-use Rattle.pending.specs.Dues.{dueCode, eventFrom, dueFrom, takenOf, vectorOf, isTrace}
+use Rattle.pending.specs.Dues.{dueCode, eventFrom, dueFrom, isTrace}
 use Rattle.pending.proofs.EventLaws.{asked}
 use Rattle.pending.proofs.Laws.{due-known}
-use Rattle.control.proofs.FlowLaws.{Made}
+use Rattle.machine.proofs.BankLaws.{Made}
 
 -- ---- what a sequence leaves
 

@@ -9,7 +9,7 @@ use Rattle.bits.specs.Bits.{bitOf}
 use Rattle.memory.specs.Answers.{answerOf}
 use Rattle.memory.proofs.AnswerLaws.{answer-high, answer-got}
 use Rattle.program.specs.Access.{Gave, gave}
-use Rattle.program.specs.Program.{Program, interpret, after}
+use Rattle.program.specs.Program.{Program, interpret}
 use Rattle.program.specs.Journal.{Journaled, logging}
 use Rattle.program.proofs.Interpret.{interpret-after}
 use Rattle.machine.specs.Registers.{Bank, word, psw}
@@ -20,7 +20,7 @@ use Rattle.pending.specs.Traces.{tracedFrom}
 use Rattle.step.specs.Events.{Due, dueOf, looked}
 use Rattle.step.specs.Step.{Acted, attempt, tracesAt, traceFalls, Stepped, stepped, exceptionStep, eventStep, finish, instructionStep, stepFor, step}
 use Rattle.pending.specs.Dues.{dueCode, eventFrom, dueFrom}
-use Rattle.control.proofs.FlowLaws.{Made}
+use Rattle.machine.proofs.BankLaws.{Made}
 use Rattle.attempts.specs.Code.{attemptOf, attemptedOut, actedOut}
 use Rattle.attempts.proofs.AttemptLaws.{events-attempted}
 use Rattle.steps.proofs.EventLaws.{due-is, due-small, nothing-due, something-due}

@@ -17,7 +17,7 @@ use Rattle.access.specs.Moves.{fillWord, fillQuad, fill}
 use Rattle.access.specs.Parts.{onward, _>>=_, request, parcelRequest, frameRequest}
 use Rattle.access.specs.Text.{fetchParcel, fetchParcels, fetchAfter, fetchText}
 use Rattle.exec.specs.Stack.{checkMsp, catchTo}
-use Rattle.exec.specs.Frames.{pushPair, pushFrame, throughVector, interruptSequence, exceptionSequence, privileged, kret, cretFill, cret, reset}
+use Rattle.exec.specs.Frames.{pushPair, pushFrame, throughVector, interruptSequence, exceptionSequence, privileged, kret, cretFill, cret, reset, cretAfter, cretCaught, cretFrom}
 use Rattle.exec.specs.Execute.{executeNiladic, executeNormal, execute}
 use Rattle.step.specs.Events.{take}
 use Rattle.step.specs.Timers.{counted}
@@ -171,5 +171,5 @@ unfolding resets run refusal goodBank advance turn step eventStep take interrupt
 resets-checked = tt
 
 pub returns-checked : T (all returns)
-unfolding returns run refusal goodBank advance turn confinedTurn confinedAttempt tryActed step instructionStep attempt act finish exceptionStep fetchInstruction counted executeNiladic executeNormal execute privileged kret cretFill cret catchTo checkMsp fillWord fillQuad fill exceptionSequence pushFrame pushPair throughVector fetchParcel fetchParcels fetchAfter fetchText onward _>>=_ request parcelRequest frameRequest readFrame writeFrame interpret after touch follow access segmentOf segment nonpagedOf walkFrom walk route decodeShort decodeBare decodeOf load storeAnswer storeMemory
+unfolding returns run refusal goodBank advance turn confinedTurn confinedAttempt tryActed step instructionStep attempt act finish exceptionStep fetchInstruction counted executeNiladic executeNormal execute privileged kret cretFill cret catchTo checkMsp fillWord fillQuad fill exceptionSequence pushFrame pushPair throughVector fetchParcel fetchParcels fetchAfter fetchText onward _>>=_ request parcelRequest frameRequest readFrame writeFrame interpret after touch follow access segmentOf segment nonpagedOf walkFrom walk route decodeShort decodeBare decodeOf load storeAnswer storeMemory cretAfter cretFrom cretCaught
 returns-checked = tt

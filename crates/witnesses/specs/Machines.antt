@@ -1,12 +1,12 @@
 -- Wrong answers of a setter, of memory and of a walk, each at an input at which the definition answers otherwise.
 -- Assumes nothing.
 use Prim.Native.Nat.{ℕ, _+_}
-use mathlib.Core.Bool.{Bool, true, false}
+use mathlib.Core.Bool.{Bool, true, false, not}
 use mathlib.Core.List.{List, [], _∷_}
 use lib.Dec.{T}
 use Rattle.word.specs.declared.Width.the-variants.{Byte, Half, Word}
 use Rattle.memory.specs.Answers.{Answer, got, bad}
-use Rattle.memory.specs.Bytes.{number, load, storeAnswer, storeMemory, placeOf, memoryRefusal, byteAt}
+use Rattle.memory.specs.Bytes.{number, load, storeAnswer, storeMemory, placeOf, wholePages, byteAt}
 use Rattle.mmu.specs.declared.Kind.the-variants.{Fetch, Read, Write}
 use Rattle.mmu.specs.declared.Walk.{Walk}
 use Rattle.mmu.specs.declared.Walk.the-variants.{Fault, Direct, Paged}
@@ -81,10 +81,10 @@ memories =
     ∷ is (answerNumber (storeAnswer 4 (1 ∷ 2 ∷ 3 ∷ []) 0)) (256 + 0xA) 0
     ∷ is (number 3 (storeMemory 4 (1 ∷ 2 ∷ 3 ∷ []) 0 0x0506_0708) 0) 0x01_0203 0x05_0607
     -- boards of no page, of a part of a page, of one page and of 4,097
-    ∷ is (memoryRefusal 0) 1 0
-    ∷ is (memoryRefusal 4095) 1 0
-    ∷ is (memoryRefusal 4096) 0 1
-    ∷ is (memoryRefusal 0x100_1000) 1 0
+    ∷ not (wholePages 0)
+    ∷ not (wholePages 4095)
+    ∷ wholePages 4096
+    ∷ not (wholePages 0x100_1000)
     ∷ []
 
 -- ---- walks, of the first segment

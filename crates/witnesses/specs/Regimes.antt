@@ -17,7 +17,7 @@ use Rattle.access.specs.Parts.{onward, _>>=_, request, parcelRequest, frameRequ
 use Rattle.access.specs.Text.{fetchParcel, fetchParcels, fetchAfter, fetchText}
 use Rattle.exec.specs.Operands.{located, locate, readPlace, readOperand, writePlace, checkRegisters}
 use Rattle.exec.specs.Dyadic.{move, perform, dyadic}
-use Rattle.exec.specs.Control.{readWord32, jump}
+use Rattle.exec.specs.Control.{readWord32, jump, readThrough}
 use Rattle.exec.specs.Frames.{pushPair, pushFrame, throughVector, kcall, exceptionSequence, reset}
 use Rattle.exec.specs.Execute.{executeMonadic, executeNormal, execute}
 use Rattle.step.specs.Timers.{counted}
@@ -139,11 +139,11 @@ recordings =
     ∷ []
 
 pub regimes-checked : T (all regimes)
-unfolding regimes run refusal goodBank advance turn confinedTurn confinedAttempt tryActed step instructionStep attempt act finish exceptionStep fetchInstruction counted executeMonadic executeNormal execute kcall pushFrame pushPair throughVector exceptionSequence reset move perform dyadic located locate readPlace readOperand writePlace checkRegisters readWord32 fetchParcel fetchParcels fetchAfter fetchText onward _>>=_ request parcelRequest frameRequest readMemory readData writeMemory writeData readFrame writeFrame interpret after touch follow access segmentOf segment nonpagedOf walkFrom walk route decodeDyadic decodeMonadic decodeThree decodeWide decodeBare decodeOf load storeAnswer storeMemory
+unfolding regimes run refusal goodBank advance turn confinedTurn confinedAttempt tryActed step instructionStep attempt act finish exceptionStep fetchInstruction counted executeMonadic executeNormal execute kcall pushFrame pushPair throughVector exceptionSequence reset move perform dyadic located locate readPlace readOperand writePlace checkRegisters readWord32 fetchParcel fetchParcels fetchAfter fetchText onward _>>=_ request parcelRequest frameRequest readMemory readData writeMemory writeData readFrame writeFrame interpret after touch follow access segmentOf segment nonpagedOf walkFrom walk route decodeDyadic decodeMonadic decodeThree decodeWide decodeBare decodeOf load storeAnswer storeMemory readThrough
 regimes-checked = tt
 
 pub orders-checked : T (all orders)
-unfolding orders run refusal goodBank advance turn confinedTurn confinedAttempt tryActed step instructionStep attempt act finish fetchInstruction counted executeMonadic executeNormal execute jump readWord32 readMemory readData move perform dyadic located locate readPlace readOperand writePlace checkRegisters fetchParcel fetchParcels fetchAfter fetchText onward _>>=_ request parcelRequest writeMemory writeData interpret after touch follow access segmentOf segment nonpagedOf walkFrom walk route decodeDyadic decodeMonadic decodeThree decodeWide decodeBare decodeOf load storeAnswer storeMemory
+unfolding orders run refusal goodBank advance turn confinedTurn confinedAttempt tryActed step instructionStep attempt act finish fetchInstruction counted executeMonadic executeNormal execute jump readWord32 readMemory readData move perform dyadic located locate readPlace readOperand writePlace checkRegisters fetchParcel fetchParcels fetchAfter fetchText onward _>>=_ request parcelRequest writeMemory writeData interpret after touch follow access segmentOf segment nonpagedOf walkFrom walk route decodeDyadic decodeMonadic decodeThree decodeWide decodeBare decodeOf load storeAnswer storeMemory readThrough
 orders-checked = tt
 
 pub recordings-checked : T (all recordings)

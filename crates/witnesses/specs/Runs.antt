@@ -19,9 +19,9 @@ use Rattle.access.specs.Parts.{onward, _>>=_, request, parcelRequest, frameRequ
 use Rattle.access.specs.Text.{fetchParcel, fetchParcels, fetchAfter, fetchPrefixed, fetchText}
 use Rattle.exec.specs.Operands.{located, locate, readPlace, readOperand, writeRegister, writePlace, writeAccumulator, checkRegisters}
 use Rattle.exec.specs.Dyadic.{interlock, move, perform, dyadic}
-use Rattle.exec.specs.Control.{readWord32}
+use Rattle.exec.specs.Control.{readWord32, readThrough}
 use Rattle.exec.specs.Frames.{pushPair, pushFrame, throughVector, kcall}
-use Rattle.exec.specs.Stack.{stackTarget, checkMsp, enterOffset, enterAt, enter}
+use Rattle.exec.specs.Stack.{stackTarget, checkMsp, enterOffset, enterAt, enter, enterClipped}
 use Rattle.exec.specs.Execute.{executeMonadic, executeNormal, execute}
 use Rattle.step.specs.Timers.{counted}
 use Rattle.step.specs.Step.{fetchInstruction, act, attempt, finish, instructionStep, step}
@@ -210,11 +210,11 @@ courses =
     ∷ []
 
 pub refusals-checked : T (all refusals)
-unfolding refusals run refusal goodBank advance turn step instructionStep attempt act finish fetchInstruction confinedTurn confinedAttempt tryActed counted executeMonadic executeNormal execute kcall pushFrame pushPair throughVector readWord32 fetchParcel fetchParcels fetchAfter fetchText onward _>>=_ parcelRequest frameRequest readFrame writeFrame interpret after touch follow access segmentOf segment nonpagedOf walkFrom walk route decodeShort decodeBare decodeOf load storeAnswer storeMemory
+unfolding refusals run refusal goodBank advance turn step instructionStep attempt act finish fetchInstruction confinedTurn confinedAttempt tryActed counted executeMonadic executeNormal execute kcall pushFrame pushPair throughVector readWord32 fetchParcel fetchParcels fetchAfter fetchText onward _>>=_ parcelRequest frameRequest readFrame writeFrame interpret after touch follow access segmentOf segment nonpagedOf walkFrom walk route decodeShort decodeBare decodeOf load storeAnswer storeMemory readThrough
 refusals-checked = tt
 
 pub steps-checked : T (all steps)
-unfolding steps run refusal goodBank advance turn step instructionStep attempt act finish fetchInstruction counted executeMonadic executeNormal execute move perform dyadic located locate readPlace readOperand writeRegister writePlace checkRegisters stackTarget checkMsp enterOffset enterAt enter flush checkStore fetchParcel fetchParcels fetchAfter fetchPrefixed fetchText onward _>>=_ request parcelRequest writeMemory writeData interpret after touch follow access route decodeShort decodeDyadic decodeMonadic decodeThree decodeWide decodePrefixed decodeBare decodeOf load storeAnswer storeMemory
+unfolding steps run refusal goodBank advance turn step instructionStep attempt act finish fetchInstruction counted executeMonadic executeNormal execute move perform dyadic located locate readPlace readOperand writeRegister writePlace checkRegisters stackTarget checkMsp enterOffset enterAt enter flush checkStore fetchParcel fetchParcels fetchAfter fetchPrefixed fetchText onward _>>=_ request parcelRequest writeMemory writeData interpret after touch follow access route decodeShort decodeDyadic decodeMonadic decodeThree decodeWide decodePrefixed decodeBare decodeOf load storeAnswer storeMemory enterClipped
 steps-checked = tt
 
 pub confinedRuns-checked : T (all confinedRuns)

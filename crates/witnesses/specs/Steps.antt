@@ -17,7 +17,7 @@ use Rattle.access.specs.Parts.{onward, _>>=_, request, parcelRequest, frameRequ
 use Rattle.access.specs.Text.{fetchParcel, fetchParcels, fetchAfter, fetchPrefixed, fetchText}
 use Rattle.exec.specs.Operands.{located, locate, readPlace, readOperand, writeRegister, writePlace, writeAccumulator, checkRegisters}
 use Rattle.exec.specs.Dyadic.{checkDivisor, compute, accumulate, interlock, move, perform, dyadic}
-use Rattle.exec.specs.Control.{readWord32, jump, call}
+use Rattle.exec.specs.Control.{readWord32, jump, call, callTo, readThrough}
 use Rattle.exec.specs.Stack.{stackTarget, enterPlain, enterAt, enter}
 use Rattle.exec.specs.Frames.{pushPair, pushFrame, throughVector, exceptionSequence, storePc, unimplementedSequence}
 use Rattle.exec.specs.Execute.{executeMonadic, executeNormal, execute}
@@ -151,9 +151,9 @@ exceptions =
     ∷ []
 
 pub instructions-checked : T (all instructions)
-unfolding instructions decodePrefixed writeRegister run refusal goodBank advance turn step instructionStep attempt act finish fetchInstruction counted executeMonadic executeNormal execute unimplementedSequence storePc throughVector addOf subOf checkDivisor compute accumulate interlock move perform dyadic located locate readPlace readOperand writePlace writeAccumulator checkRegisters readWord32 jump call stackTarget enterPlain enterAt enter checkStore fetchParcel fetchParcels fetchAfter fetchPrefixed fetchText onward _>>=_ request parcelRequest frameRequest readMemory readData writeMemory writeData readFrame writeFrame interpret after touch follow access route decodeShort decodeDyadic decodeMonadic decodeThree decodeWide decodeBare decodeOf load storeAnswer storeMemory
+unfolding instructions decodePrefixed writeRegister run refusal goodBank advance turn step instructionStep attempt act finish fetchInstruction counted executeMonadic executeNormal execute unimplementedSequence storePc throughVector addOf subOf checkDivisor compute accumulate interlock move perform dyadic located locate readPlace readOperand writePlace writeAccumulator checkRegisters readWord32 jump call stackTarget enterPlain enterAt enter checkStore fetchParcel fetchParcels fetchAfter fetchPrefixed fetchText onward _>>=_ request parcelRequest frameRequest readMemory readData writeMemory writeData readFrame writeFrame interpret after touch follow access route decodeShort decodeDyadic decodeMonadic decodeThree decodeWide decodeBare decodeOf load storeAnswer storeMemory callTo readThrough
 instructions-checked = tt
 
 pub exceptions-checked : T (all exceptions)
-unfolding exceptions run refusal goodBank advance turn step instructionStep attempt act finish exceptionStep exceptionSequence pushFrame pushPair throughVector frameRequest readFrame writeFrame confinedTurn confinedAttempt tryActed fetchInstruction counted executeMonadic executeNormal execute compute move perform dyadic located locate readPlace readOperand writeRegister writePlace checkRegisters readWord32 call fetchParcel fetchParcels fetchAfter fetchPrefixed fetchText onward _>>=_ request parcelRequest readMemory readData writeMemory writeData interpret after touch follow access segmentOf segment nonpagedOf pageOf walkFrom walk route marked fresh recorded decodeShort decodeDyadic decodeMonadic decodeThree decodeWide decodePrefixed decodeBare decodeOf load storeAnswer storeMemory
+unfolding exceptions run refusal goodBank advance turn step instructionStep attempt act finish exceptionStep exceptionSequence pushFrame pushPair throughVector frameRequest readFrame writeFrame confinedTurn confinedAttempt tryActed fetchInstruction counted executeMonadic executeNormal execute compute move perform dyadic located locate readPlace readOperand writeRegister writePlace checkRegisters readWord32 call fetchParcel fetchParcels fetchAfter fetchPrefixed fetchText onward _>>=_ request parcelRequest readMemory readData writeMemory writeData interpret after touch follow access segmentOf segment nonpagedOf pageOf walkFrom walk route marked fresh recorded decodeShort decodeDyadic decodeMonadic decodeThree decodeWide decodePrefixed decodeBare decodeOf load storeAnswer storeMemory callTo readThrough
 exceptions-checked = tt

@@ -1,6 +1,6 @@
 use Rattle.operands.proofs.RestLaws.{part-stops, part-goes}
 use Rattle.dyadic.proofs.MoveLaws.{address-moved}
-use Rattle.dyadic.specs.Code.{moveTo}
+use Rattle.exec.specs.Dyadic.{moveTo}
 use Rattle.exec.specs.Dyadic.{moveAddress, placeAddress}
 use Rattle.operands.specs.Code.{placeAt}
 use mathlib.Core.Path.{_∙_}

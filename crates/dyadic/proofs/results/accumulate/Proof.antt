@@ -1,4 +1,4 @@
-use Rattle.dyadic.specs.Code.{accumulateWith}
+use Rattle.exec.specs.Dyadic.{accumulateWith}
 use Rattle.exec.specs.Dyadic.{accumulate}
 use Rattle.operands.proofs.RestLaws.{rest-stops, rest-goes}
 use Rattle.machine.specs.Status.{cpu}

@@ -1,4 +1,4 @@
-use Rattle.dyadic.specs.Code.{accumulateResult}
+use Rattle.exec.specs.Dyadic.{accumulateResult}
 use Rattle.exec.specs.Alu.{operate}
 use Rattle.dyadic.proofs.ResultLaws.{divisor-zero, divisor-other}
 use Rattle.program.specs.Journal.{journaled}

@@ -1,4 +1,4 @@
-use Rattle.dyadic.specs.Code.{computeWith}
+use Rattle.exec.specs.Dyadic.{computeWith}
 use Rattle.exec.specs.Dyadic.{compute}
 use Rattle.operands.proofs.RestLaws.{rest-stops, rest-goes}
 use Rattle.operands.specs.Code.{placeAt}

@@ -1,4 +1,4 @@
-use Rattle.dyadic.specs.Code.{putResult}
+use Rattle.exec.specs.Dyadic.{putResult}
 use Rattle.exec.specs.Alu.{operate}
 use Rattle.dyadic.proofs.ResultLaws.{divisor-zero, divisor-other}
 use Rattle.operands.specs.Code.{placeAt}

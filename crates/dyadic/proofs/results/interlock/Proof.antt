@@ -1,4 +1,4 @@
-use Rattle.dyadic.specs.Code.{interlockWith}
+use Rattle.exec.specs.Dyadic.{interlockWith}
 use Rattle.exec.specs.Dyadic.{interlock}
 use Rattle.operands.proofs.RestLaws.{rest-stops, rest-goes}
 use Rattle.operands.specs.Code.{placeAt}

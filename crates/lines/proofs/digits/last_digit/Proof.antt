@@ -4,7 +4,6 @@ use native.Mathlib.Omega.{arith}
 use Rattle.laws.proofs.Match.{climb}
 use Rattle.lines.specs.Digits.{digit}
 use Rattle.lines.proofs.DigitLaws.{digit-last}
-use borrow.Author.Needs.{needs}
 use Rattle.lines.proofs.digits.last_digit.Statement.{statement}
 use Rattle.lines.proofs.digits.last_digit.Tie as tie
 

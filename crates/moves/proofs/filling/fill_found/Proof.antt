@@ -15,6 +15,9 @@ read-beside-requires-3 c κs = search needs
 read-beside-requires-4 : tie.Need-read-beside-requires-4
 read-beside-requires-4 c κs = search needs
 
+field-requires : tie.Need-field-requires
+field-requires c κs = search needs
+
 cast-i : tie.Need-cast-i
 cast-i c = search needs
 
@@ -43,7 +46,7 @@ element-write-r : tie.Need-element-write-r
 element-write-r c = search needs
 
 returns : tie.Need-returns
-returns c = found-filled (c .before .before .before .before .before .before .before .before .before .before .args .r .now) (c .before .before .before .before .before .before .before .before .before .before .args .q .now) (c .before .before .before .before .before .before .before .before .before .before .args .user) (c .before .before .before .before .before .before .before .before .before .before .args .stb) (c .before .before .before .before .before .before .before .before .before .before .args .a) (c .before .before .before .before .before .before .before .before .before .before .args .pa) (c .before .before .before .before .before .before .before .before .before .before .args .m .now) (c .before .before .before .before .before .before .before .before .before .before .pre) (search needs) _ _ _ _ _ _ _ _ _ (c .before .before .before .before .before .before .before .before .read-beside .ensures .0) (c .before .before .before .before .before .before .before .before .read-beside .ensures .1) (c .before .before .before .before .before .before .before .read-beside2 .ensures .0) (c .before .before .before .before .before .before .before .read-beside2 .ensures .1) (c .before .before .before .before .before .before .read-beside3 .ensures .0) (c .before .before .before .before .before .before .read-beside3 .ensures .1) (c .before .before .before .before .before .read-beside4 .ensures .0) (c .before .before .before .before .before .read-beside4 .ensures .1) (c .before .before .before .before .low32 .ensures) (c .before .before .before .low322 .ensures) (c .before .before .low323 .ensures) (c .before .low324 .ensures) (c .plus .ensures)
+returns c = found-filled (c .before .before .before .before .before .before .before .before .before .before .before .args .r .now) (c .before .before .before .before .before .before .before .before .before .before .before .args .q .now) (c .before .before .before .before .before .before .before .before .before .before .before .args .user) (c .before .before .before .before .before .before .before .before .before .before .before .args .stb) (c .before .before .before .before .before .before .before .before .before .before .before .args .a) (c .before .before .before .before .before .before .before .before .before .before .before .args .pa) (c .before .before .before .before .before .before .before .before .before .before .before .args .m .now) (c .before .before .before .before .before .before .before .before .before .before .before .pre) (search needs) _ _ _ _ _ _ _ _ _ _ (c .before .before .before .before .before .before .before .before .before .read-beside .ensures .0) (c .before .before .before .before .before .before .before .before .before .read-beside .ensures .1) (c .before .before .before .before .before .before .before .before .read-beside2 .ensures .0) (c .before .before .before .before .before .before .before .before .read-beside2 .ensures .1) (c .before .before .before .before .before .before .before .read-beside3 .ensures .0) (c .before .before .before .before .before .before .before .read-beside3 .ensures .1) (c .before .before .before .before .before .before .read-beside4 .ensures .0) (c .before .before .before .before .before .before .read-beside4 .ensures .1) (c .before .before .before .before .low32 .ensures) (c .before .before .before .low322 .ensures) (c .before .before .low323 .ensures) (c .before .low324 .ensures) (c .plus .ensures) (c .before .before .before .before .before .field .ensures)
 
 pub fill-found-spec : {M : Type 1} → statement M
 fill-found-spec =
@@ -53,6 +56,7 @@ fill-found-spec =
     read-beside-requires-2
     read-beside-requires-3
     read-beside-requires-4
+    field-requires
     cast-i
     low32-requires
     low32-requires-2

@@ -1,6 +1,6 @@
 use mathlib.Core.Path.{refl, sym}
 use borrow.Author.Tests.{not-false}
-use Rattle.quick_dyadic.proofs.GiveLaws.{not-both}
+use Rattle.laws.proofs.Cases.{not-both}
 use Rattle.quick.proofs.FlowLaws.{call-done}
 use borrow.Author.Needs.{needs}
 use Rattle.quick.proofs.flow.call.Statement.{statement}

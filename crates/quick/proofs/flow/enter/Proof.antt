@@ -1,7 +1,7 @@
 use Prim.Native.Nat.{ℕ, _*_, _/_}
 use mathlib.Core.Path.{refl, sym, ap}
 use borrow.Author.Tests.{not-false}
-use Rattle.quick_dyadic.proofs.GiveLaws.{not-both}
+use Rattle.laws.proofs.Cases.{not-both}
 use Rattle.quick.proofs.FlowLaws.{enter-gives}
 use borrow.Author.Needs.{needs}
 use Rattle.quick.proofs.flow.enter.Statement.{statement}

@@ -1,5 +1,5 @@
 use Rattle.quick.proofs.FlowLaws.{taken-goes, passed-goes}
-use Rattle.quick_dyadic.proofs.GiveLaws.{not-both}
+use Rattle.laws.proofs.Cases.{not-both}
 use mathlib.Core.Path.{sym}
 use borrow.Author.Needs.{needs}
 use Rattle.quick.proofs.flow.jump_if.Statement.{statement}

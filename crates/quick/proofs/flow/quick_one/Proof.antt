@@ -1,5 +1,5 @@
 use Rattle.quick.proofs.FlowLaws.{calls, returns-quiet, jumps, jumps-true, jumps-false, pops, catches, enters}
-use Rattle.quick_dyadic.proofs.GiveLaws.{not-both}
+use Rattle.laws.proofs.Cases.{not-both}
 use mathlib.Core.Path.{refl}
 use borrow.Author.Needs.{needs}
 use Rattle.quick.proofs.flow.quick_one.Statement.{statement}

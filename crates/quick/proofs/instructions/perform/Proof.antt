@@ -1,5 +1,5 @@
 use Rattle.quick.proofs.InstructionLaws.{two-executed, one-executed}
-use Rattle.quick_dyadic.proofs.GiveLaws.{not-both}
+use Rattle.laws.proofs.Cases.{not-both}
 use mathlib.Core.Path.{refl}
 use borrow.Author.Needs.{needs}
 use Rattle.quick.proofs.instructions.perform.Statement.{statement}

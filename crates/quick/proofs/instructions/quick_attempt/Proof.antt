@@ -1,5 +1,5 @@
 use Rattle.quick.proofs.InstructionLaws.{performed}
-use Rattle.quick_dyadic.proofs.GiveLaws.{not-both}
+use Rattle.laws.proofs.Cases.{not-both}
 use native.Mathlib.Omega.{arith}
 use mathlib.Core.Path.{refl}
 use borrow.Author.Needs.{needs}

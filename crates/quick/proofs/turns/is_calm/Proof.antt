@@ -1,5 +1,5 @@
 use Rattle.quick.proofs.TurnLaws.{calm-so}
-use Rattle.quick_dyadic.proofs.GiveLaws.{passed, not-both}
+use Rattle.laws.proofs.Cases.{passed, not-both}
 use borrow.Author.Needs.{needs}
 use Rattle.quick.proofs.turns.is_calm.Statement.{statement}
 use Rattle.quick.proofs.turns.is_calm.Tie as tie

@@ -1,5 +1,5 @@
 use Rattle.quick.proofs.TurnLaws.{quickly-goes}
-use Rattle.quick_dyadic.proofs.GiveLaws.{passed, missed, not-both}
+use Rattle.laws.proofs.Cases.{passed, missed, not-both}
 use mathlib.Core.Path.{refl, sym}
 use borrow.Author.Needs.{needs}
 use Rattle.quick.proofs.turns.quick_turn.Statement.{statement}

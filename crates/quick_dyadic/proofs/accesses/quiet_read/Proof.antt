@@ -1,5 +1,5 @@
 use Rattle.quick_dyadic.proofs.AccessLaws.{near-read, read-far}
-use Rattle.quick_dyadic.proofs.GiveLaws.{passed, missed}
+use Rattle.laws.proofs.Cases.{passed, missed}
 use native.Mathlib.Omega.{arith}
 use borrow.Author.Needs.{needs}
 use Rattle.quick_dyadic.proofs.accesses.quiet_read.Statement.{statement}

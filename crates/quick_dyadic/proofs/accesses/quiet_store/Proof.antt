@@ -1,5 +1,5 @@
 use Rattle.quick_dyadic.proofs.AccessLaws.{near-stored, stored-far}
-use Rattle.quick_dyadic.proofs.GiveLaws.{passed, missed, not-both}
+use Rattle.laws.proofs.Cases.{passed, missed, not-both}
 use mathlib.Core.Path.{refl, sym}
 use borrow.Author.Needs.{needs}
 use Rattle.quick_dyadic.proofs.accesses.quiet_store.Statement.{statement}

@@ -1,5 +1,5 @@
 use Rattle.quick_dyadic.proofs.AccessLaws.{far-read}
-use Rattle.quick_dyadic.proofs.GiveLaws.{passed}
+use Rattle.laws.proofs.Cases.{passed}
 use native.Mathlib.Omega.{arith}
 use borrow.Author.Needs.{needs}
 use Rattle.quick_dyadic.proofs.accesses.read_far.Statement.{statement}

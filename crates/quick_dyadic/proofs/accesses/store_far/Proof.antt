@@ -1,5 +1,5 @@
 use Rattle.quick_dyadic.proofs.AccessLaws.{far-stored, far-kept}
-use Rattle.quick_dyadic.proofs.GiveLaws.{passed, not-both}
+use Rattle.laws.proofs.Cases.{passed, not-both}
 use mathlib.Core.Path.{refl, sym}
 use borrow.Author.Needs.{needs}
 use Rattle.quick_dyadic.proofs.accesses.store_far.Statement.{statement}

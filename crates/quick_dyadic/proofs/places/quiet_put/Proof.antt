@@ -1,5 +1,5 @@
 use Rattle.quick_dyadic.proofs.PlaceLaws.{put-constant, put-stored}
-use Rattle.quick_dyadic.proofs.GiveLaws.{not-both}
+use Rattle.laws.proofs.Cases.{not-both}
 use mathlib.Core.Path.{sym}
 use borrow.Author.Needs.{needs}
 use Rattle.quick_dyadic.proofs.places.quiet_put.Statement.{statement}

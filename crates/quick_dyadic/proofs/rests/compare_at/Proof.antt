@@ -1,6 +1,6 @@
 use Rattle.quick_dyadic.proofs.RestLaws.{compared}
 use Rattle.quick_dyadic.proofs.NearLaws.{flag-holds}
-use Rattle.quick_dyadic.proofs.GiveLaws.{not-both}
+use Rattle.laws.proofs.Cases.{not-both}
 use mathlib.Core.Path.{refl, sym}
 use borrow.Author.Needs.{needs}
 use Rattle.quick_dyadic.proofs.rests.compare_at.Statement.{statement}

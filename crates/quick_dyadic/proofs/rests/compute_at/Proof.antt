@@ -1,6 +1,6 @@
 use Rattle.quick_dyadic.proofs.RestLaws.{computed}
 use Rattle.quick_dyadic.proofs.NearLaws.{flags-hold}
-use Rattle.quick_dyadic.proofs.GiveLaws.{passed, missed, not-both}
+use Rattle.laws.proofs.Cases.{passed, missed, not-both}
 use mathlib.Core.Path.{refl, sym}
 use borrow.Author.Needs.{needs}
 use Rattle.quick_dyadic.proofs.rests.compute_at.Statement.{statement}

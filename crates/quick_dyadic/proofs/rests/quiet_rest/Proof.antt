@@ -1,5 +1,5 @@
 use Rattle.quick_dyadic.proofs.RestLaws.{computes, accumulates, compares, moves}
-use Rattle.quick_dyadic.proofs.GiveLaws.{not-both}
+use Rattle.laws.proofs.Cases.{not-both}
 use mathlib.Core.Path.{refl}
 use borrow.Author.Needs.{needs}
 use Rattle.quick_dyadic.proofs.rests.quiet_rest.Statement.{statement}

@@ -1,5 +1,5 @@
 use Rattle.quick_dyadic.proofs.TwoLaws.{two-whole}
-use Rattle.quick_dyadic.proofs.GiveLaws.{passed, missed, not-both}
+use Rattle.laws.proofs.Cases.{passed, missed, not-both}
 use mathlib.Core.Path.{refl, sym}
 use borrow.Author.Needs.{needs}
 use Rattle.quick_dyadic.proofs.two.quick_two.Statement.{statement}

@@ -1,7 +1,6 @@
 use Rattle.stacks.proofs.CatchLaws.{fill-stopped, check-stopped, caught}
 use Rattle.handler.specs.Followed.{regimeFor}
 use Rattle.program.specs.Journal.{journaled}
-use mathlib.Core.Path.{_∙_}
 use borrow.Author.Needs.{needs}
 use Rattle.stacks.proofs.catches.catch_to.Statement.{statement}
 use Rattle.stacks.proofs.catches.catch_to.Tie as tie

@@ -1,6 +1,5 @@
 use Rattle.stacks.proofs.EnterLaws.{clipped-first, clipped-second, clipped-done}
 use Rattle.program.specs.Journal.{journaled}
-use mathlib.Core.Path.{_∙_}
 use borrow.Author.Needs.{needs}
 use Rattle.stacks.proofs.enters.enter_clipped.Statement.{statement}
 use Rattle.stacks.proofs.enters.enter_clipped.Tie as tie

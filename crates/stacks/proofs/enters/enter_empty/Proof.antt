@@ -1,6 +1,5 @@
 use Rattle.stacks.proofs.EnterLaws.{empty-stopped, empty-done}
 use Rattle.program.specs.Journal.{journaled}
-use mathlib.Core.Path.{_∙_}
 use borrow.Author.Needs.{needs}
 use Rattle.stacks.proofs.enters.enter_empty.Statement.{statement}
 use Rattle.stacks.proofs.enters.enter_empty.Tie as tie

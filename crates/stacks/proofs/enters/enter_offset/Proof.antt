@@ -1,6 +1,5 @@
 use Rattle.stacks.proofs.EnterLaws.{offset-stopped, offset-done}
 use Rattle.program.specs.Journal.{journaled}
-use mathlib.Core.Path.{_∙_}
 use borrow.Author.Needs.{needs}
 use Rattle.stacks.proofs.enters.enter_offset.Statement.{statement}
 use Rattle.stacks.proofs.enters.enter_offset.Tie as tie
