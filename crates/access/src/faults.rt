@@ -1,4 +1,5 @@
 // What a fault leaves in the registers.
+use memory::answers::low32;
 ghost use mathlib.Core.Path.{_≡_};
 ghost use Prim.Native.Nat.{_%_, _^_};
 ghost use mathlib.Core.Bool.{cond, _||_};
@@ -9,7 +10,7 @@ ghost use lib.ListN.{set};
 pub fn set_fault(r: &mut [u32; 17], x: u64, a: u32)
     ensures { λ _. ⌜ now (r .exit) ≡ cond (eqb (x % 2 ^ 32) 8 || eqb (x % 2 ^ 32) 9) (set (now (r .entry)) 1 a) (now (r .entry)) ⌝ }
 {
-    let e = x % 0x1_0000_0000;
+    let e = low32(x);
     if (e == 8) | (e == 9) {
         r[1] = a;
     }

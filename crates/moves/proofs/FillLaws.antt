@@ -7,6 +7,8 @@ use mathlib.Core.List.{[], _∷_}
 use native.Mathlib.Nat.{add-zero}
 use native.Mathlib.Omega.{arith}
 use lib.ListN.{getD, set, length}
+use lib.Dec.{ltb}
+use borrow.Author.Tests.{lt-ltb, le-ltb, ltb-true, ltb-false}
 use Rattle.word.specs.declared.Width.the-variants.{Word}
 use Rattle.word.specs.Sums.{plusOf}
 use Rattle.memory.specs.Answers.{answerOf}
@@ -27,6 +29,8 @@ use Rattle.machine.specs.Status.{Cpu, cpu}
 use Rattle.access.specs.Parts.{Out, ok, onward, _>>=_, done, replied}
 use Rattle.access.specs.Code.{ended}
 use Rattle.access.specs.Moves.{fillWord, filled, fillQuad, mayFill, fill}
+use Rattle.moves.specs.declared.filling.QuadWords.{QuadWords}
+use Rattle.moves.specs.Words.{quadOut}
 use Rattle.access.proofs.Bind.{bind, requested, bind-low, bind-high}
 use Rattle.access.proofs.PartLaws.{faultBank, stopped}
 
@@ -95,6 +99,39 @@ module _ (b : Bank) (q : Cache) (g : Regime) (a : ℕ) where
           quad-filled h v0 v1 v2 v3 p i ev0 ev1 ev2 ev3 ep es ei =
               rw (answer-low x3 h, es, ei, ev0, ev1, ev2, ev3, ep)
               (sym (third-read ∙ bind-low (cpu b q) d x3 (fillWord (cpu b q) g d) last t2 t3 (word-filled d x3 t2 t3 e3) h))
+
+-- an answer is a value or an exception
+pub by-answer : (P : Type 0) (n : ℕ) → (n < 2 ^ 32 → P) → (2 ^ 32 ≤ n → P) → P
+by-answer P n f g = go (ltb n (2 ^ 32)) refl
+  where
+    go : (t : Bool) → ltb n (2 ^ 32) ≡ t → P
+    go true e = f (ltb-true n (2 ^ 32) e)
+    go false e = g (ltb-false n (2 ^ 32) e)
+
+pub quad-as : (c : Cpu) (a : ℕ) (u : Journaled) (x k : QuadWords) (R : Gave Journaled (Out Cpu)) → x ≡ k → gave (quadOut c a k) u ≡ R → gave (quadOut c a x) u ≡ R
+quad-as c a u x k R e h = rw e h
+
+-- the words read, as the code answers them: n is the last answer, e the address of its word
+module _ (b : Bank) (q : Cache) (a n e w0 w1 w2 : ℕ) (u : Journaled) (R : Gave Journaled (Out Cpu)) where
+  abbrev answered : Out Cpu
+  answered = quadOut (cpu b q) a (record { answer = n; at = e; w0 = w0; w1 = w1; w2 = w2 })
+
+  -- MSP up to p, the quad-word with v for its last word
+  abbrev placed : ℕ → ℕ → Out Cpu
+  placed p v = ended (answerOf n) (set b 4 p) (set q (a / 16 % 16) (w0 ∷ w1 ∷ w2 ∷ v ∷ []))
+
+  pub read-stopped : 2 ^ 32 ≤ n → gave (ended (answerOf n) (faultBank b n e) q) u ≡ R → gave answered u ≡ R
+  read-stopped h f = rw (le-ltb n (2 ^ 32) h) (sym (stopped b (faultBank b n e) q n e u h refl) ∙ f)
+
+  pub read-whole : n < 2 ^ 32 → gave (placed (plusOf a 16) (n % 2 ^ 32)) u ≡ R → gave answered u ≡ R
+  read-whole h f = rw (lt-ltb n (2 ^ 32) h) (rw (answer-low n h) at f)
+
+  pub words-stopped : gave answered u ≡ R → 2 ^ 32 ≤ n → (s : Bank) → s ≡ faultBank b n e → gave (ended (answerOf n) s q) u ≡ R
+  words-stopped f h s es = stopped b s q n e u h es ∙ (rw (le-ltb n (2 ^ 32) h) at f)
+
+  pub words-filled : gave answered u ≡ R → n < 2 ^ 32 → (p v i : ℕ) → p ≡ plusOf a 16 → v ≡ n % 2 ^ 32 → i ≡ a / 16 % 16
+      → gave (ended (answerOf n) (set b 4 p) (set q i (w0 ∷ w1 ∷ w2 ∷ v ∷ []))) u ≡ R
+  words-filled f h p v i ep ev ei = rw (ep, ev, ei, answer-low n h) (rw (lt-ltb n (2 ^ 32) h) at f)
 
 -- all four words found by one walk
 pub found-filled : (b : Bank) (q : Cache) (user : Bool) (stb a pa : ℕ) (m : Memory) → Quad user stb Read a m pa → a < 2 ^ 32 → (x0 x1 x2 x3 v0 v1 v2 v3 p i : ℕ)

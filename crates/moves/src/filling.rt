@@ -16,12 +16,75 @@ ghost use Rattle.memory.specs.Answers.{answerOf};
 ghost use Rattle.mmu.specs.declared.Kind.the-variants as kind;
 ghost use Rattle.program.specs.Access.{read as reads};
 ghost use Rattle.program.specs.Journal.{Journal};
-ghost use Rattle.program.specs.Contracts.{AnswersReadOnly, InterpretsReadOnly};
+ghost use Rattle.program.specs.Contracts.{Interprets, AnswersReadOnly, InterpretsReadOnly};
+ghost use Rattle.machine.specs.Registers.{Bank};
+ghost use Rattle.machine.specs.Cache.{Cache};
+ghost use Rattle.machine.specs.Status.{cpu};
 ghost use Rattle.handler.specs.Followed.{regimeFor};
 ghost use Rattle.handler.specs.Quads.{Quad};
 ghost use Rattle.access.specs.Code.{ended};
 ghost use Rattle.access.specs.Moves.{fillQuad, mayFill, fill as fillOf};
 ghost use Rattle.access.specs.Contracts.{entryCpu, Ends};
+ghost use Rattle.moves.specs.Words.{stoppedAt, quadOut};
+
+// The last word of a quad-word and the three before it; or the answer that faulted, and the address of its word.
+pub struct QuadWords {
+    pub answer: u64,
+    pub at: u32,
+    pub w0: u32,
+    pub w1: u32,
+    pub w2: u32,
+}
+
+// A reading that was stopped at a word.
+fn stopped_at(answer: u64, at: u32) -> QuadWords
+    ensures { λ x. ⌜ x ≡ stoppedAt answer at ⌝ }
+{
+    QuadWords {
+        answer,
+        at,
+        w0: 0,
+        w1: 0,
+        w2: 0,
+    }
+}
+
+// The words of the quad-word at a, each by itself.
+fn read_words(
+    m: &mut [u8],
+    journal: &mut [u64; 201],
+    stb: u32,
+    user: bool,
+    translated: bool,
+    a: u32,
+) -> QuadWords
+    ensures { λ x. ⌜ ((b : Bank) (q : Cache)
+        → Interprets (quadOut (cpu b q) a x) m journal (fillQuad (cpu b q) (regimeFor stb user translated) a)) ⌝ }
+{
+    let x0 = read(m, journal, Width::Word, stb, user, translated, a);
+    if 0x1_0000_0000 <= x0 {
+        return stopped_at(x0, a);
+    }
+    let b = plus(a, 4);
+    let x1 = read(m, journal, Width::Word, stb, user, translated, b);
+    if 0x1_0000_0000 <= x1 {
+        return stopped_at(x1, b);
+    }
+    let c = plus(a, 8);
+    let x2 = read(m, journal, Width::Word, stb, user, translated, c);
+    if 0x1_0000_0000 <= x2 {
+        return stopped_at(x2, c);
+    }
+    let d = plus(a, 12);
+    let x3 = read(m, journal, Width::Word, stb, user, translated, d);
+    QuadWords {
+        answer: x3,
+        at: d,
+        w0: low32(x0),
+        w1: low32(x1),
+        w2: low32(x2),
+    }
+}
 
 // The quad-word at a word by word, and MSP up past it; one whose read faults changes no word of the cache.
 fn fill_words(
@@ -36,33 +99,15 @@ fn fill_words(
 ) -> u64
     ensures { λ x. ⌜ Ends x m journal q r (λ c. fillQuad c (regimeFor stb user translated) a) ⌝ }
 {
-    let x0 = read(m, journal, Width::Word, stb, user, translated, a);
-    if 0x1_0000_0000 <= x0 {
-        set_fault(r, x0, a);
-        return x0;
-    }
-    let b = plus(a, 4);
-    let x1 = read(m, journal, Width::Word, stb, user, translated, b);
-    if 0x1_0000_0000 <= x1 {
-        set_fault(r, x1, b);
-        return x1;
-    }
-    let c = plus(a, 8);
-    let x2 = read(m, journal, Width::Word, stb, user, translated, c);
-    if 0x1_0000_0000 <= x2 {
-        set_fault(r, x2, c);
-        return x2;
-    }
-    let d = plus(a, 12);
-    let x3 = read(m, journal, Width::Word, stb, user, translated, d);
-    if 0x1_0000_0000 <= x3 {
-        set_fault(r, x3, d);
-        return x3;
+    let x = read_words(m, journal, stb, user, translated, a);
+    if 0x1_0000_0000 <= x.answer {
+        set_fault(r, x.answer, x.at);
+        return x.answer;
     }
     let i = field(a, 4, 4) as usize;
-    q[i] = [low32(x0), low32(x1), low32(x2), low32(x3)];
+    q[i] = [x.w0, x.w1, x.w2, low32(x.answer)];
     r[4] = plus(a, 16);
-    x3
+    x.answer
 }
 
 // The word i bytes on in the quad-word at a that `fill_place` found at pa. (stb, user and a stand in the contract
