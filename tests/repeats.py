@@ -23,8 +23,8 @@ ALLOWED = {
 
 # files whose theorems are for readers and cited by nothing but a document that names the file
 READ = {
-    'word/proofs/Meaning.antt': 'the arithmetic in the words of the manual: DECISIONS, "Signed numbers"',
-    'word/proofs/SignedProducts.antt': 'the same of products and quotients',
+    'word/proofs/MeaningLaws.antt': 'the arithmetic in the words of the manual: DECISIONS, "Signed numbers"',
+    'word/proofs/ProductLaws.antt': 'the same of products and quotients',
 }
 
 THIN = 4        # characters

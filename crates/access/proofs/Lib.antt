@@ -1,5 +1,5 @@
-pub mod DataLaws
-pub mod Bind
-pub mod PartLaws
-pub mod TextLaws
-pub mod OperandLaws
+pub mod JournalLaws
+pub mod AccessLaws
+pub mod QuadLaws
+pub mod EffectFreeLaws
+pub mod UndoLaws

@@ -1,6 +1,3 @@
-pub mod Parts
-pub mod Data
-pub mod Text
-pub mod Moves
-pub mod Code
-pub mod Contracts
+pub mod Followed
+pub mod EffectFree
+pub mod Quads

@@ -1,5 +1,5 @@
-// The accesses of an instruction: data, text and frames, and the address that a fault leaves.
-pub mod data;
-pub mod faults;
-pub mod text;
-pub mod transfers;
+// What memory and journal do with an access: alignment, translation, recording, and the touch, each change noted.
+pub mod accesses;
+pub mod effect_free;
+pub mod journal;
+pub mod quads;

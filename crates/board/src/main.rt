@@ -2,5 +2,5 @@
 // tested with no proof of their own.
 fn main() {
     let mut memory = [0u8; 65536];
-    serving::serve(&mut memory);
+    board_loop::serve(&mut memory);
 }

@@ -1,7 +1,1 @@
-pub mod Operands
-pub mod Alu
-pub mod Dyadic
-pub mod Control
-pub mod Stack
-pub mod Frames
-pub mod Execute
+pub mod Code

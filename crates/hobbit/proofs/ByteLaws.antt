@@ -8,10 +8,10 @@ use native.Mathlib.Omega.{arith}
 use lib.ListN.{length, getD, set, take, drop, length-set, length-drop}
 use lib.Seq.{take-suc, take-all, length-take-le, getD-drop}
 use borrow.Author.Tests.{le-leb, lt-leb}
-use Rattle.machine.proofs.Flat.{Front, front-more, front-all}
-use Rattle.lines.specs.Answers.{written}
-use Rattle.lines.specs.Stores.{stored}
-use Rattle.lines.proofs.AnswerLaws.{written-on}
+use Rattle.machine.proofs.FlatLaws.{Front, front-more, front-all}
+use Rattle.board_lines.specs.Answers.{written}
+use Rattle.board_lines.specs.Stores.{storeResult}
+use Rattle.board_lines.proofs.AnswerLaws.{written-on}
 use Rattle.hobbit.specs.Bytes.{storedAt, loadedFrom}
 
 -- k bytes of t are in memory from a on
@@ -60,20 +60,20 @@ module _ (m : List ℕ) (a : ℕ) (t : List ℕ) where
   fits : length t ≤ length m → a ≤ length m - length t → a + length t ≤ length m
   fits h k = omega arith
 
-  pub store-done : length t ≤ length m → a ≤ length m - length t → (k : List ℕ) → k ≡ written m a t → stored 0 k ≡ storedAt m a t
+  pub store-done : length t ≤ length m → a ≤ length m - length t → (k : List ℕ) → k ≡ written m a t → storeResult 0 k ≡ storedAt m a t
   unfolding storedAt
-  store-done h f k e = rw (le-leb (a + length t) (length m) (fits h f)) (ap (λ (l : List ℕ). stored 0 l) e)
+  store-done h f k e = rw (le-leb (a + length t) (length m) (fits h f)) (ap (λ (l : List ℕ). storeResult 0 l) e)
 
-  pub load-done : length t ≤ length m → a ≤ length m - length t → (k : List ℕ) → k ≡ take (length t) (drop a m) → stored 0 k ≡ loadedFrom m a t
+  pub load-done : length t ≤ length m → a ≤ length m - length t → (k : List ℕ) → k ≡ take (length t) (drop a m) → storeResult 0 k ≡ loadedFrom m a t
   unfolding loadedFrom
-  load-done h f k e = rw (le-leb (a + length t) (length m) (fits h f)) (ap (λ (l : List ℕ). stored 0 l) e)
+  load-done h f k e = rw (le-leb (a + length t) (length m) (fits h f)) (ap (λ (l : List ℕ). storeResult 0 l) e)
 
   -- past the end, by either test
-  pub store-past : length m < a + length t → stored 8 m ≡ storedAt m a t
+  pub store-past : length m < a + length t → storeResult 8 m ≡ storedAt m a t
   unfolding storedAt
   store-past h = rw (lt-leb (a + length t) (length m) h) refl
 
-  pub load-past : length m < a + length t → stored 8 t ≡ loadedFrom m a t
+  pub load-past : length m < a + length t → storeResult 8 t ≡ loadedFrom m a t
   unfolding loadedFrom
   load-past h = rw (lt-leb (a + length t) (length m) h) refl
 

@@ -7,9 +7,9 @@ use Rattle.machine.specs.Registers.{Bank}
 use Rattle.machine.specs.Cache.{quadsOf, flatOf}
 use Rattle.machine.specs.Status.{cpu}
 use Rattle.memory.specs.Bytes.{Memory}
-use Rattle.program.specs.Contracts.{Lent}
-use Rattle.run.specs.Run.{Board, board, Ended}
-use Rattle.runs.specs.Code.{Advanced}
+use Rattle.access_spec.specs.Contracts.{Lent}
+use Rattle.run_spec.specs.Run.{Board, board, RunResult}
+use Rattle.run.specs.Code.{StepResult}
 use Rattle.hobbit.specs.declared.HobbitAnswer.{HobbitAnswer}
 
 -- the number of this interface, HOBBIT_INTERFACE of the header
@@ -50,8 +50,8 @@ pub record RunAnswer : Type 0 where
 abbrev pub runAnswer : HobbitAnswer → Blocks → RunAnswer
 runAnswer x b = record { steps = x .steps; stop = x .stop; code = x .code; left = b }
 
-abbrev pub endedIn : Ended → RunAnswer
-endedIn e = record { steps = e .steps; stop = e .stop; code = e .code; left = blocksOf (e .left) }
+abbrev pub runAnswerOf : RunResult → RunAnswer
+runAnswerOf e = record { steps = e .steps; stop = e .stop; code = e .code; left = blocksOf (e .left) }
 
 -- a step's: 0 or the refusal
 pub record StepAnswer : Type 0 where
@@ -61,5 +61,5 @@ pub record StepAnswer : Type 0 where
 abbrev pub stepAnswer : ℕ → Blocks → StepAnswer
 stepAnswer r b = record { refusal = r; left = b }
 
-abbrev pub advancedIn : Advanced → StepAnswer
-advancedIn a = stepAnswer (a .refusal) (blocksOf (a .left))
+abbrev pub stepAnswerOf : StepResult → StepAnswer
+stepAnswerOf a = stepAnswer (a .refusal) (blocksOf (a .left))

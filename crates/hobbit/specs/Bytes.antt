@@ -6,16 +6,16 @@ use mathlib.Core.List.{List}
 use lib.ListN.{length, take, drop}
 use lib.Dec.{leb}
 use Rattle.memory.specs.Bytes.{Memory}
-use Rattle.lines.specs.Answers.{written}
-use Rattle.lines.specs.Stores.{Stored, stored, offBoard}
+use Rattle.board_lines.specs.Answers.{written}
+use Rattle.board_lines.specs.Stores.{StoreResult, storeResult, outsideMemory}
 
 -- whether bytes from a on lie in memory
 abbrev pub within : Memory → ℕ → List ℕ → Bool
 within m a t = leb (a + length t) (length m)
 
-unfoldable pub storedAt : Memory → ℕ → List ℕ → Stored
-storedAt m a t = cond (within m a t) (stored 0 (written m a t)) (stored offBoard m)
+unfoldable pub storedAt : Memory → ℕ → List ℕ → StoreResult
+storedAt m a t = cond (within m a t) (storeResult 0 (written m a t)) (storeResult outsideMemory m)
 
 -- t is the room
-unfoldable pub loadedFrom : Memory → ℕ → List ℕ → Stored
-loadedFrom m a t = cond (within m a t) (stored 0 (take (length t) (drop a m))) (stored offBoard t)
+unfoldable pub loadedFrom : Memory → ℕ → List ℕ → StoreResult
+loadedFrom m a t = cond (within m a t) (storeResult 0 (take (length t) (drop a m))) (storeResult outsideMemory t)

@@ -2,8 +2,8 @@
 ghost use mathlib.Core.Path.{_≡_};
 ghost use Prim.Native.Nat.{_+_, _≤_};
 ghost use lib.ListN.{length, take, drop};
-ghost use Rattle.lines.specs.Answers.{written};
-ghost use Rattle.lines.specs.Stores.{stored};
+ghost use Rattle.board_lines.specs.Answers.{written};
+ghost use Rattle.board_lines.specs.Stores.{storeResult};
 ghost use Rattle.hobbit.specs.Bytes.{storedAt, loadedFrom};
 
 // The refusal of bytes that reach past the end of memory.
@@ -36,7 +36,7 @@ fn copy_out(memory: &[u8], a: usize, bytes: &mut [u8])
 // Bytes from an address on: 0, or 8 where they reach past the end, and memory as it was.
 #[no_mangle]
 pub extern "C" fn hobbit_store(memory: &mut [u8], address: u32, bytes: &[u8]) -> u32
-    ensures { λ x. ⌜ stored x (now (memory .exit)) ≡ storedAt (now (memory .entry)) address (now (bytes .entry)) ⌝ }
+    ensures { λ x. ⌜ storeResult x (now (memory .exit)) ≡ storedAt (now (memory .entry)) address (now (bytes .entry)) ⌝ }
 {
     let a = address as usize;
     if bytes.len() <= memory.len() {
@@ -52,7 +52,7 @@ pub extern "C" fn hobbit_store(memory: &mut [u8], address: u32, bytes: &[u8]) ->
 // As many bytes as there is room for, from an address on: 0, or 8 where they reach past the end, and the room as it was.
 #[no_mangle]
 pub extern "C" fn hobbit_load(memory: &[u8], address: u32, bytes: &mut [u8]) -> u32
-    ensures { λ x. ⌜ stored x (now (bytes .exit)) ≡ loadedFrom (now (memory .entry)) address (now (bytes .entry)) ⌝ }
+    ensures { λ x. ⌜ storeResult x (now (bytes .exit)) ≡ loadedFrom (now (memory .entry)) address (now (bytes .entry)) ⌝ }
 {
     let a = address as usize;
     if bytes.len() <= memory.len() {

@@ -8,15 +8,15 @@ use machine::assign::set_register;
 use machine::cache::flat;
 use machine::cache::quads;
 use machine::record::start_bank;
-use runs::running::run_lent;
+use run::running::run_lent;
 ghost use mathlib.Core.Path.{_≡_};
 ghost use Rattle.machine.specs.Registers.{startBank, setting, setRegister};
 ghost use Rattle.machine.specs.Cache.{quadsOf};
 ghost use Rattle.machine.specs.Status.{cpu};
 ghost use Rattle.machine.specs.Record.{zeroCache, reading, readingOf};
-ghost use Rattle.run.specs.Run.{run as runOf};
-ghost use Rattle.runs.specs.Code.{oneStep};
-ghost use Rattle.hobbit.specs.Blocks.{interface, runAnswer, endedIn, stepAnswer, advancedIn, exitBlocks, entryBoardIn};
+ghost use Rattle.run_spec.specs.Run.{run as runOf};
+ghost use Rattle.run.specs.Code.{oneStep};
+ghost use Rattle.hobbit.specs.Blocks.{interface, runAnswer, runAnswerOf, stepAnswer, stepAnswerOf, exitBlocks, entryBoardIn};
 
 const INTERFACE: u32 = 1;
 
@@ -46,7 +46,7 @@ pub extern "C" fn hobbit_run(
     budget: u32,
     level: u32,
 ) -> HobbitAnswer
-    ensures { λ x. ⌜ runAnswer x (exitBlocks registers cache memory) ≡ endedIn (runOf confined budget level (entryBoardIn registers cache memory)) ⌝ }
+    ensures { λ x. ⌜ runAnswer x (exitBlocks registers cache memory) ≡ runAnswerOf (runOf confined budget level (entryBoardIn registers cache memory)) ⌝ }
 {
     let mut q = quads(*cache);
     let x = run_lent(memory, &mut q, registers, confined, budget, level);
@@ -66,7 +66,7 @@ pub extern "C" fn hobbit_step(
     cache: &mut [u32; 64],
     level: u32,
 ) -> u32
-    ensures { λ x. ⌜ stepAnswer x (exitBlocks registers cache memory) ≡ advancedIn (oneStep level (entryBoardIn registers cache memory)) ⌝ }
+    ensures { λ x. ⌜ stepAnswer x (exitBlocks registers cache memory) ≡ stepAnswerOf (oneStep level (entryBoardIn registers cache memory)) ⌝ }
 {
     let mut q = quads(*cache);
     let x = run_lent(memory, &mut q, registers, false, 1, level);

@@ -1,8 +1,8 @@
 // Parcels to an instruction's eight words and back (the crate numbering says what they are).
-use numbering::decode_into;
-use numbering::encode_from;
+use hobbit_blocks::decode_into;
+use hobbit_blocks::encode_from;
 ghost use mathlib.Core.Path.{_≡_};
-ghost use Rattle.numbering.specs.Calls.{told, decodedInto, encodedFrom};
+ghost use Rattle.hobbit_blocks.specs.Calls.{told, decodedInto, encodedFrom};
 
 // The instruction at the start of a text: 0 and its words, or a number that says why there is none and the words as they
 // were.

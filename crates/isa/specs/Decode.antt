@@ -30,9 +30,9 @@ use Rattle.isa.specs.declared.MonadicEntry.{MonadicEntry}
 use Rattle.isa.specs.declared.MonadicEntry.the-variants as single
 use Rattle.isa.specs.declared.Instruction.the-variants as instruction
 use Rattle.isa.specs.declared.Text.{Text}
-use Rattle.isa.specs.declared.Answer.{Answer}
-use Rattle.isa.specs.declared.Answer.the-variants.{Is, Illegal, Unimplemented, Trap, Refused}
-use Rattle.isa.specs.Refusals.{cutText}
+use Rattle.isa.specs.declared.Decoded.{Decoded}
+use Rattle.isa.specs.declared.Decoded.the-variants.{Is, Illegal, Unimplemented, Trap, Refused}
+use Rattle.isa.specs.Refusals.{truncatedText}
 use Rattle.word.specs.Widths.{signExtendOf}
 use Rattle.isa.specs.Fields.{sourceField, destinationField, fieldValue}
 use Rattle.isa.specs.Tables.{shortOf, stackOf, niladicOf, dyadicOf, monadicOf, generalOf, prefixedOf, monadicModeOf}
@@ -55,7 +55,7 @@ shortInstruction r s d p =
     record { row = r; source = fieldValue s (sourceField s p); destination = fieldValue d (destinationField p) }
 
 -- a prefix is no instruction by itself
-abbrev pub shortAnswer : ShortEntry → ℕ → Answer
+abbrev pub shortAnswer : ShortEntry → ℕ → Decoded
 shortAnswer (short.Row r s d) p = Is (instruction.Short (shortInstruction r s d p))
 shortAnswer short.Stack p = Illegal
 shortAnswer short.Niladic p = Illegal
@@ -64,7 +64,7 @@ shortAnswer short.Unimplemented p = Unimplemented
 shortAnswer short.Trap p = Trap
 shortAnswer short.Unlisted p = Illegal
 
-unfoldable pub decodeShort : ℕ → Answer
+unfoldable pub decodeShort : ℕ → Decoded
 decodeShort p = shortAnswer (shortEntry (shortOf (p / 1024 % 32)) p) p
 
 -- ---- dyadics of three and five parcels: 10 or 11, a six-bit opcode, two four-bit modes
@@ -104,7 +104,7 @@ modeEntry true k = prefixedOf k
 modeEntry false k = generalOf k
 
 -- 1.11.4: an unimplemented dyadic after a prefix is illegal with an illegal mode or combination of modes
-abbrev pub dyadicAnswer : DyadicEntry → Wide → Bool → Operand → Operand → Answer
+abbrev pub dyadicAnswer : DyadicEntry → Wide → Bool → Operand → Operand → Decoded
 dyadicAnswer (wide.Row r u) w pre s d =
     cond (legalOf u s d)
     (Is (instruction.Dyadic (record { row = r; wide = w; prefix = pre; source = s; destination = d })))
@@ -112,14 +112,14 @@ dyadicAnswer (wide.Row r u) w pre s d =
 dyadicAnswer wide.Unimplemented w pre s d = cond (legalOf OneRegister s d) Unimplemented Illegal
 dyadicAnswer wide.Unlisted w pre s d = Illegal
 
-abbrev pub bothFound : DyadicEntry → Wide → Bool → OperandFound → OperandFound → Answer
+abbrev pub bothFound : DyadicEntry → Wide → Bool → OperandFound → OperandFound → Decoded
 bothFound e w pre (found.Is s) (found.Is d) = dyadicAnswer e w pre s d
 bothFound e w pre (found.Is s) found.Nothing = Illegal
 bothFound e w pre found.Nothing (found.Is d) = Illegal
 bothFound e w pre found.Nothing found.Nothing = Illegal
 
 -- the opcode in bits 13:8, the source's mode in 7:4, the destination's in 3:0; x and y are the operand fields
-unfoldable pub decodeDyadic : Wide → Bool → ℕ → ℕ → ℕ → Answer
+unfoldable pub decodeDyadic : Wide → Bool → ℕ → ℕ → ℕ → Decoded
 decodeDyadic w pre p x y =
     bothFound (dyadicOf (p / 256 % 64)) w pre
     (operandFound w (modeEntry pre (p / 16 % 16)) x)
@@ -127,7 +127,7 @@ decodeDyadic w pre p x y =
 
 -- ---- monadics of three parcels: opcode 0, the mode in bits 7:4, the subcode in 3:0, an operand of 32 bits
 
-abbrev pub monadicFound : MonadicRow → MonadicRule → Bool → MonadicModeEntry → ℕ → Answer
+abbrev pub monadicFound : MonadicRow → MonadicRule → Bool → MonadicModeEntry → ℕ → Decoded
 monadicFound r u pre (place.Is m) v =
     cond (monadicLegalOf u m v)
     (Is (instruction.Monadic (record { row = r; prefix = pre; mode = m; value = v })))
@@ -135,12 +135,12 @@ monadicFound r u pre (place.Is m) v =
 monadicFound r u pre place.Unlisted v = Illegal
 
 -- 1.11.4: "An unimplemented monadic instruction is illegal if it has a nonword addressing mode (<0xC)"
-abbrev pub monadicAnswer : MonadicEntry → Bool → ℕ → ℕ → Answer
+abbrev pub monadicAnswer : MonadicEntry → Bool → ℕ → ℕ → Decoded
 monadicAnswer (single.Row r u) pre k v = monadicFound r u pre (monadicModeOf u k) v
 monadicAnswer single.Unimplemented pre k v = cond (ltb k 0xC) Illegal Unimplemented
 monadicAnswer single.Unlisted pre k v = Illegal
 
-unfoldable pub decodeMonadic : Bool → ℕ → ℕ → Answer
+unfoldable pub decodeMonadic : Bool → ℕ → ℕ → Decoded
 decodeMonadic pre p v = monadicAnswer (monadicOf (p % 16)) pre (p / 16 % 16) v
 
 -- ---- the length, by the first parcel or the one after a prefix
@@ -149,34 +149,34 @@ decodeMonadic pre p v = monadicAnswer (monadicOf (p % 16)) pre (p / 16 % 16) v
 abbrev pub joined : ℕ → ℕ → ℕ
 joined a b = a * 65536 + b
 
-unfoldable pub decodeThree : Bool → ℕ → ℕ → ℕ → Answer
+unfoldable pub decodeThree : Bool → ℕ → ℕ → ℕ → Decoded
 decodeThree pre p a b = cond (eqb (p / 256 % 64) 0) (decodeMonadic pre p (joined a b)) (decodeDyadic Three pre p a b)
 
 -- of a parcel p whose top bit is 1 and the parcels after it, of which there are n
-unfoldable pub decodeWide : Bool → ℕ → ℕ → ℕ → ℕ → ℕ → ℕ → Answer
+unfoldable pub decodeWide : Bool → ℕ → ℕ → ℕ → ℕ → ℕ → ℕ → Decoded
 decodeWide pre n p a b c d =
     cond (ltb p 0xC000)
-    (cond (ltb n 2) (Refused cutText) (decodeThree pre p a b))
-    (cond (ltb n 4) (Refused cutText) (decodeDyadic Five pre p (joined a b) (joined c d)))
+    (cond (ltb n 2) (Refused truncatedText) (decodeThree pre p a b))
+    (cond (ltb n 4) (Refused truncatedText) (decodeDyadic Five pre p (joined a b) (joined c d)))
 
 -- the CPU prefix: one parcel, opcode 0xB, subcode 0
 abbrev pub cpuPrefix : ℕ
 cpuPrefix = 0x2C00
 
 -- document 01: "a CPU prefix before a one-parcel instruction, or before another prefix, is illegal"
-unfoldable pub decodePrefixed : Text → Answer
+unfoldable pub decodePrefixed : Text → Decoded
 decodePrefixed t =
-    cond (ltb (t .count) 2) (Refused cutText)
+    cond (ltb (t .count) 2) (Refused truncatedText)
     (cond (ltb (t .p1) 0x8000) Illegal (decodeWide true (t .count - 2) (t .p1) (t .p2) (t .p3) (t .p4) (t .p5)))
 
-unfoldable pub decodeBare : Text → Answer
+unfoldable pub decodeBare : Text → Decoded
 decodeBare t =
     cond (ltb (t .p0) 0x8000) (decodeShort (t .p0))
     (decodeWide false (t .count - 1) (t .p0) (t .p1) (t .p2) (t .p3) (t .p4))
 
-unfoldable pub decodeOf : Text → Answer
+unfoldable pub decodeOf : Text → Decoded
 decodeOf t =
-    cond (ltb (t .count) 1) (Refused cutText)
+    cond (ltb (t .count) 1) (Refused truncatedText)
     (cond (eqb (t .p0) cpuPrefix) (decodePrefixed t) (decodeBare t))
 
 -- the parcels of a list: its length, and the first six, as far as they go

@@ -25,7 +25,7 @@ use Rattle.isa.specs.declared.Instruction.the-variants as instruction
 use Rattle.isa.specs.declared.Text.{Text}
 use Rattle.isa.specs.declared.Encoded.{Encoded}
 use Rattle.isa.specs.declared.Encoded.the-variants.{Parcels, Refused}
-use Rattle.isa.specs.Refusals.{noCode}
+use Rattle.isa.specs.Refusals.{noEncoding}
 use Rattle.word.specs.Widths.{signExtendOf}
 use Rattle.isa.specs.Fields.{fieldValue}
 use Rattle.isa.specs.Legal.{isRegister}
@@ -33,7 +33,7 @@ use Rattle.isa.specs.Encodings.{shortListed, dyadicListed, monadicListed
 
 abbrev pub coded : Bool → Text → Encoded
 coded true t = Parcels t
-coded false t = Refused noCode
+coded false t = Refused noEncoding
 
 abbrev pub text1 : ℕ → Text
 text1 p = record { count = 1; p0 = p; p1 = 0; p2 = 0; p3 = 0; p4 = 0; p5 = 0 }
@@ -234,4 +234,4 @@ encodeAny (instruction.Dyadic i) = encodeDyadic i
 encodeAny (instruction.Monadic i) = encodeMonadic i
 
 unfoldable pub encodeOf : Instruction → ℕ → Encoded
-encodeOf i n = cond (eqb n (lengthOf i)) (encodeAny i) (Refused noCode)
+encodeOf i n = cond (eqb n (lengthOf i)) (encodeAny i) (Refused noEncoding)

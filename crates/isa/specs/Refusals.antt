@@ -2,9 +2,9 @@
 use Prim.Native.Nat.{ℕ}
 
 -- "no code": no encoding at the named length carries the instruction
-abbrev pub noCode : ℕ
-noCode = 5
+abbrev pub noEncoding : ℕ
+noEncoding = 5
 
 -- "cut text": no parcel, or fewer than the first one, or the one after a prefix, calls for
-abbrev pub cutText : ℕ
-cutText = 6
+abbrev pub truncatedText : ℕ
+truncatedText = 6

@@ -200,7 +200,7 @@ pub struct Text {
 }
 
 // What the decoder answers. Trap is the trapped niladic of section 1.11.4.
-pub enum Answer {
+pub enum Decoded {
     Is(Instruction),
     Illegal,
     Unimplemented,

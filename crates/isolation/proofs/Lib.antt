@@ -1,9 +1,9 @@
-mod Tables
-mod Changes
-mod Accesses
-mod Programs
-mod Refusals
-mod Turns
-pub mod Runs
-pub mod Courses
-pub mod Unconfined
+mod TableLaws
+mod ChangeLaws
+mod AccessLaws
+mod ProgramLaws
+mod RefusalLaws
+mod TurnLaws
+pub mod Isolation
+pub mod ExecutionLaws
+pub mod UnconfinedLaws

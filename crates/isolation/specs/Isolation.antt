@@ -5,9 +5,9 @@ use mathlib.Core.Path.{_≡_}
 use mathlib.Core.List.{List, [], _∷_}
 use Rattle.machine.specs.Registers.{stb}
 use Rattle.machine.specs.Status.{reg}
-use Rattle.run.specs.Run.{Board}
-use Rattle.isolation.specs.Sealed.{Sealed, Agree, Kept}
-use Rattle.isolation.specs.Course.{Order, confined, report, course}
+use Rattle.run_spec.specs.Run.{Board}
+use Rattle.isolation.specs.Sealed.{Sealed, Agree, HiddenKept}
+use Rattle.isolation.specs.Execution.{RunRequest, confined, report, execution}
 
 -- "registers, stack cache, answers and all other pages are equal .. and the hidden pages hold their first bytes", those of
 -- a₀ and b₀. A Cpu is the thirteen registers, "the trace and timer overflows still due, whether input 0 was taken and no
@@ -15,8 +15,8 @@ use Rattle.isolation.specs.Course.{Order, confined, report, course}
 pub record Same (Hidden : ℕ → Type 0) (a₀ b₀ a b : Board) : Type 0 where
   pub registers : a .cpu ≡ b .cpu
   pub others : Agree Hidden (a .memory) (b .memory)
-  pub first-a : Kept Hidden (a₀ .memory) (a .memory)
-  pub first-b : Kept Hidden (b₀ .memory) (b .memory)
+  pub first-a : HiddenKept Hidden (a₀ .memory) (a .memory)
+  pub first-b : HiddenKept Hidden (b₀ .memory) (b .memory)
 
 -- two lists of boards, equally long, place by place
 pub data Along (R : Board → Board → Type 0) : List Board → List Board → Type 0 where
@@ -25,14 +25,14 @@ pub data Along (R : Board → Board → Type 0) : List Board → List Board → 
 
 -- "after each run, after every equal number of its steps, and after a faulting attempt that ends it"; "the event is the
 -- same with the same PC and PSW"
-pub record SameRun (Hidden : ℕ → Type 0) (a₀ b₀ : Board) (o : Order) (a b : Board) : Type 0 where
+pub record SameRun (Hidden : ℕ → Type 0) (a₀ b₀ : Board) (o : RunRequest) (a b : Board) : Type 0 where
   pub answer : report (confined o a) ≡ report (confined o b)
-  pub steps : Along (Same Hidden a₀ b₀) (course o a) (course o b)
+  pub steps : Along (Same Hidden a₀ b₀) (execution o a) (execution o b)
   pub left : Same Hidden a₀ b₀ (confined o a .left) (confined o b .left)
 
 -- "The first run begins with the two machines; each later one gets the machine that the last one left, after an event or
 -- a refusal too."
-abbrev pub SameRuns : (ℕ → Type 0) → Board → Board → List Order → Board → Board → Type 0
+abbrev pub SameRuns : (ℕ → Type 0) → Board → Board → List RunRequest → Board → Board → Type 0
 SameRuns Hidden a₀ b₀ [] a b = Unit {0}
 SameRuns Hidden a₀ b₀ (o ∷ os) a b =
     SameRun Hidden a₀ b₀ o a b × SameRuns Hidden a₀ b₀ os (confined o a .left) (confined o b .left)
@@ -46,4 +46,4 @@ pub record Apart (Hidden : ℕ → Type 0) (a b : Board) : Type 0 where
 -- "Demand 3 is one claim about the whole list of runs." It holds without "at user level with virtual addressing on": there
 -- every run is refused.
 abbrev pub Isolation : Type 1
-Isolation = (Hidden : ℕ → Type 0) (a b : Board) → Apart Hidden a b → (os : List Order) → SameRuns Hidden a b os a b
+Isolation = (Hidden : ℕ → Type 0) (a b : Board) → Apart Hidden a b → (os : List RunRequest) → SameRuns Hidden a b os a b

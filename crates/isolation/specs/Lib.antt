@@ -1,3 +1,3 @@
 pub mod Sealed
-pub mod Course
+pub mod Execution
 pub mod Isolation

@@ -6,8 +6,8 @@ use mathlib.Core.Logic.{_⊎_}
 use mathlib.Core.Bool.{true}
 use lib.ListN.{length}
 use Rattle.memory.specs.Bytes.{Memory, byteAt}
-use Rattle.mmu.specs.declared.Kind.{Kind}
-use Rattle.mmu.specs.declared.Kind.the-variants.{Write}
+use Rattle.mmu.specs.declared.AccessKind.{AccessKind}
+use Rattle.mmu.specs.declared.AccessKind.the-variants.{Write}
 use Rattle.mmu.specs.declared.Segment.the-variants.{Table}
 use Rattle.mmu.specs.declared.Walk.{Walk}
 use Rattle.mmu.specs.declared.Walk.the-variants.{Fault, Direct, Paged}
@@ -24,7 +24,7 @@ lands (Direct p) pa = p ≡ pa
 lands (Paged e p) pa = p ≡ pa
 
 -- the walk is one at user level, from STB, of a virtual address below 2 ^ 32
-pub record Leads (stb : ℕ) (m : Memory) (k : Kind) (pa : ℕ) : Type 0 where
+pub record Leads (stb : ℕ) (m : Memory) (k : AccessKind) (pa : ℕ) : Type 0 where
   pub va : ℕ
   pub virtual : va < 2 ^ 32
   pub there : lands (walk true stb k va m) pa
@@ -58,7 +58,7 @@ TableWord stb m w = SegmentWord stb m w ⊎ PageWord stb m w
 -- by chapter 2 on the memory at the start."
 pub record Sealed (Hidden : ℕ → Type 0) (stb : ℕ) (m : Memory) : Type 0 where
   -- "no virtual address leads a user fetch, read or write to a hidden page"
-  pub unreached : (k : Kind) (pa : ℕ) → Leads stb m k pa → Hidden (page pa) → ⊥
+  pub unreached : (k : AccessKind) (pa : ℕ) → Leads stb m k pa → Hidden (page pa) → ⊥
   -- "no walk reads a table word in one"
   pub unhidden : (w : ℕ) → TableWord stb m w → Hidden (page w) → ⊥
   -- "no user write reaches a table word"
@@ -72,6 +72,6 @@ pub record Agree (Hidden : ℕ → Type 0) (a b : Memory) : Type 0 where
   pub same : (x : ℕ) → (Hidden (page x) → ⊥) → byteAt a x ≡ byteAt b x
 
 -- "the hidden pages hold their first bytes": those of the memory m₀
-pub record Kept (Hidden : ℕ → Type 0) (m₀ m : Memory) : Type 0 where
+pub record HiddenKept (Hidden : ℕ → Type 0) (m₀ m : Memory) : Type 0 where
   pub len : length m ≡ length m₀
   pub same : (x : ℕ) → Hidden (page x) → byteAt m x ≡ byteAt m₀ x

@@ -6,34 +6,34 @@ use mathlib.Core.Bool.{true}
 use mathlib.Core.List.{List, [], _∷_, _++_}
 use Rattle.memory.specs.Bytes.{Memory}
 use Rattle.machine.specs.Status.{Cpu}
-use Rattle.run.specs.Run.{Board, board}
-use Rattle.lines.specs.Answers.{Output, output}
-use Rattle.conversation.specs.Conversation.{next}
-use Rattle.conversation.specs.Code.{Desk, desk, deskOf}
-use Rattle.conversation.specs.Blocks.{toldAll}
-use Rattle.conversation.specs.Stream.{exchangeLines, Exchange, exchange, exchangeOf, lastLine}
+use Rattle.run_spec.specs.Run.{Board, board}
+use Rattle.board_lines.specs.Answers.{Output, output}
+use Rattle.board_conversation.specs.Conversation.{next}
+use Rattle.board_conversation.specs.Code.{BoardIo, boardIo, boardIoOf}
+use Rattle.board_conversation.specs.Blocks.{linesOn}
+use Rattle.board_conversation.specs.Loop.{exchangeLines, Exchange, exchange, exchangeOf, lastLine}
 use Rattle.isolation.specs.Isolation.{Apart}
-use Rattle.isolation_board.specs.Calls.{Lent, ExchangeCall, Converse, LastCall, Finish}
-use Rattle.isolation_board.specs.Lines.{admits}
+use Rattle.isolation_board.specs.Calls.{LentBoard, ExchangeCall, Converse, LastCall, Finish}
+use Rattle.isolation_board.specs.Lines.{admitsLines}
 use Rattle.isolation_board.specs.Exchanges.{Between, boardOf, bytesGiven, bytesKept, lastBytes, afterExchange, Exchanging, Exchanges}
 use Rattle.isolation_board.specs.Exchanges.{afterAll, End, AdmittedExchanges, AdmittedEnd, SameLent, SameExchange, SameExchanges, SameEnd}
 use Rattle.isolation_board.specs.Exchanges.{begun, ConfinedExchanges, ConfinedEnd}
 use Rattle.isolation_board.proofs.Lines.{Alike, alike}
-use Rattle.isolation_board.proofs.Desks.{desks-same}
+use Rattle.isolation_board.proofs.Buffers.{buffers-same}
 
-abbrev deskBy : Lent → ℕ → Desk
-deskBy s p = deskOf (s .machine) (s .memory) (s .buffer) p
+abbrev ioBy : LentBoard → ℕ → BoardIo
+ioBy s p = boardIoOf (s .machine) (s .memory) (s .buffer) p
 
 abbrev exchangeBy : ExchangeCall → Exchange
-exchangeBy x = exchange (deskBy (x .left) (x .answer .place)) (x .answer .last) (bytesKept x) (x .answer .more)
+exchangeBy x = exchange (ioBy (x .left) (x .answer .place)) (x .answer .last) (bytesKept x) (x .answer .more)
 
 -- what the exported contracts say: they ask for nothing, and an exchange and the end are those of the definitions
-pub converse-says : (s : Lent) (x : ExchangeCall)
-    → Converse s x → exchangeBy x ≡ exchangeOf (x .stream .last) (bytesGiven x) (deskBy s 0)
+pub converse-says : (s : LentBoard) (x : ExchangeCall)
+    → Converse s x → exchangeBy x ≡ exchangeOf (x .stream .last) (bytesGiven x) (ioBy s 0)
 converse-says s x h = h tt
 
-pub finish-says : (s : Lent) (x : LastCall)
-    → Finish s x → deskBy (x .left) (x .place) ≡ toldAll (next (x .stream .last)) (lastLine (lastBytes x)) (deskBy s 0)
+pub finish-says : (s : LentBoard) (x : LastCall)
+    → Finish s x → ioBy (x .left) (x .place) ≡ linesOn (next (x .stream .last)) (lastLine (lastBytes x)) (ioBy s 0)
 finish-says s x h = h tt
 
 module _ (H : ℕ → Type 0) (a₀ b₀ : Board) where
@@ -44,7 +44,7 @@ module _ (H : ℕ → Type 0) (a₀ b₀ : Board) where
     last : b .last ≡ d .last
     kept : b .kept ≡ d .kept
 
-  left-same : (s t : Lent) → s .buffer ≡ t .buffer → Alike H a₀ b₀ (boardOf s) (boardOf t)
+  left-same : (s t : LentBoard) → s .buffer ≡ t .buffer → Alike H a₀ b₀ (boardOf s) (boardOf t)
       → SameLent H (a₀ .memory) (b₀ .memory) s t
   left-same s t e h =
       let w = h .now in
@@ -52,48 +52,48 @@ module _ (H : ℕ → Type 0) (a₀ b₀ : Board) where
 
   -- ---- an exchange, the second side's by the number, the bytes and the buffer of the first
 
-  abbrev secondDesk : Between → Between → Desk
-  secondDesk b d = desk (boardOf (d .lent)) (output (b .lent .buffer) 0)
+  abbrev secondIo : Between → Between → BoardIo
+  secondIo b d = boardIo (boardOf (d .lent)) (output (b .lent .buffer) 0)
 
   exchange-first : (b : Between) (r : List ℕ) (x : ExchangeCall) → Exchanging b r x
-      → exchangeBy x ≡ exchangeOf (b .last) (b .kept ++ r) (deskBy (b .lent) 0)
-  exchange-first b r x t = converse-says (b .lent) x (t .answers) ∙ (λ i. exchangeOf (t .number i) (t .bytes i) (deskBy (b .lent) 0))
+      → exchangeBy x ≡ exchangeOf (b .last) (b .kept ++ r) (ioBy (b .lent) 0)
+  exchange-first b r x t = converse-says (b .lent) x (t .answers) ∙ (λ i. exchangeOf (t .number i) (t .bytes i) (ioBy (b .lent) 0))
 
   exchange-second : (b d : Between) (r : List ℕ) (y : ExchangeCall) → Level b d → Exchanging d r y
-      → exchangeBy y ≡ exchangeOf (b .last) (b .kept ++ r) (secondDesk b d)
+      → exchangeBy y ≡ exchangeOf (b .last) (b .kept ++ r) (secondIo b d)
   exchange-second b d r y l t =
       exchange-first d r y t
-      ∙ (λ i. exchangeOf (sym (l .last) i) (sym (l .kept) i ++ r) (desk (boardOf (d .lent)) (output (sym (l .buffer) i) 0)))
+      ∙ (λ i. exchangeOf (sym (l .last) i) (sym (l .kept) i ++ r) (boardIo (boardOf (d .lent)) (output (sym (l .buffer) i) 0)))
 
   module _ (b d : Between) (r : List ℕ) (x y : ExchangeCall) (l : Level b d) (f : Exchanging b r x) (g : Exchanging d r y)
-      (e : admits (next (b .last)) (exchangeLines (b .kept ++ r)) (boardOf (b .lent)) ≡ true) where
-    told : (toldAll (next (b .last)) (exchangeLines (b .kept ++ r)) (deskBy (b .lent) 0) .output
-        ≡ toldAll (next (b .last)) (exchangeLines (b .kept ++ r)) (secondDesk b d) .output)
-        × Alike H a₀ b₀ (toldAll (next (b .last)) (exchangeLines (b .kept ++ r)) (deskBy (b .lent) 0) .board)
-        (toldAll (next (b .last)) (exchangeLines (b .kept ++ r)) (secondDesk b d) .board)
+      (e : admitsLines (next (b .last)) (exchangeLines (b .kept ++ r)) (boardOf (b .lent)) ≡ true) where
+    told : (linesOn (next (b .last)) (exchangeLines (b .kept ++ r)) (ioBy (b .lent) 0) .output
+        ≡ linesOn (next (b .last)) (exchangeLines (b .kept ++ r)) (secondIo b d) .output)
+        × Alike H a₀ b₀ (linesOn (next (b .last)) (exchangeLines (b .kept ++ r)) (ioBy (b .lent) 0) .board)
+        (linesOn (next (b .last)) (exchangeLines (b .kept ++ r)) (secondIo b d) .board)
     told =
-        desks-same H a₀ b₀ (next (b .last)) (exchangeLines (b .kept ++ r)) (boardOf (b .lent)) (boardOf (d .lent))
+        buffers-same H a₀ b₀ (next (b .last)) (exchangeLines (b .kept ++ r)) (boardOf (b .lent)) (boardOf (d .lent))
         (output (b .lent .buffer) 0) (l .boards) e
 
     -- what is the same of the definition is the same of the answers
     of-both : {A : Type 0} (p : Exchange → A)
-        → p (exchangeOf (b .last) (b .kept ++ r) (deskBy (b .lent) 0)) ≡ p (exchangeOf (b .last) (b .kept ++ r) (secondDesk b d))
+        → p (exchangeOf (b .last) (b .kept ++ r) (ioBy (b .lent) 0)) ≡ p (exchangeOf (b .last) (b .kept ++ r) (secondIo b d))
         → p (exchangeBy x) ≡ p (exchangeBy y)
     of-both p h = ap p (exchange-first b r x f) ∙ h ∙ sym (ap p (exchange-second b d r y l g))
 
     boards-after : Alike H a₀ b₀ (boardOf (x .left)) (boardOf (y .left))
     boards-after =
-        let e = ap (λ (z : Exchange). z .desk .board) (exchange-first b r x f) in
-        let h = ap (λ (z : Exchange). z .desk .board) (exchange-second b d r y l g) in
+        let e = ap (λ (z : Exchange). z .boardIo .board) (exchange-first b r x f) in
+        let h = ap (λ (z : Exchange). z .boardIo .board) (exchange-second b d r y l g) in
         rw (e, h) (told .1)
 
     buffer-after : x .left .buffer ≡ y .left .buffer
-    buffer-after = of-both (λ z. z .desk .output .bytes) (ap (λ (o : Output). o .bytes) (told .0))
+    buffer-after = of-both (λ z. z .boardIo .output .bytes) (ap (λ (o : Output). o .bytes) (told .0))
 
     exchange-same : SameExchange H (a₀ .memory) (b₀ .memory) x y
     exchange-same =
         record {
-          place = of-both (λ z. z .desk .output .place) (ap (λ (o : Output). o .place) (told .0));
+          place = of-both (λ z. z .boardIo .output .place) (ap (λ (o : Output). o .place) (told .0));
           last = of-both (λ z. z .last) refl;
           kept = of-both (λ z. z .bytes) refl;
           more = of-both (λ z. z .more) refl;
@@ -119,16 +119,16 @@ module _ (H : ℕ → Type 0) (a₀ b₀ : Board) where
   -- ---- the end of input
 
   end-first : (b : Between) (x : LastCall) → End b x
-      → deskBy (x .left) (x .place) ≡ toldAll (next (b .last)) (lastLine (b .kept)) (deskBy (b .lent) 0)
+      → ioBy (x .left) (x .place) ≡ linesOn (next (b .last)) (lastLine (b .kept)) (ioBy (b .lent) 0)
   end-first b x t =
-      finish-says (b .lent) x (t .answers) ∙ (λ i. toldAll (next (t .number i)) (lastLine (t .bytes i)) (deskBy (b .lent) 0))
+      finish-says (b .lent) x (t .answers) ∙ (λ i. linesOn (next (t .number i)) (lastLine (t .bytes i)) (ioBy (b .lent) 0))
 
   end-second : (b d : Between) (y : LastCall) → Level b d → End d y
-      → deskBy (y .left) (y .place) ≡ toldAll (next (b .last)) (lastLine (b .kept)) (secondDesk b d)
+      → ioBy (y .left) (y .place) ≡ linesOn (next (b .last)) (lastLine (b .kept)) (secondIo b d)
   end-second b d y l t =
-      let at : Lent → List ℕ → Desk = λ s o. desk (boardOf s) (output o 0) in
+      let at : LentBoard → List ℕ → BoardIo = λ s o. boardIo (boardOf s) (output o 0) in
       end-first d y t
-      ∙ (λ i. toldAll (next (sym (l .last) i)) (lastLine (sym (l .kept) i)) (at (d .lent) (sym (l .buffer) i)))
+      ∙ (λ i. linesOn (next (sym (l .last) i)) (lastLine (sym (l .kept) i)) (at (d .lent) (sym (l .buffer) i)))
 
   end-same : (b d : Between) (x y : LastCall) → Level b d → AdmittedEnd b → End b x → End d y
       → SameEnd H (a₀ .memory) (b₀ .memory) x y
@@ -138,23 +138,23 @@ module _ (H : ℕ → Type 0) (a₀ b₀ : Board) where
         left = left-same (x .left) (y .left) (ap (λ (z : Output). z .bytes) outputs) boards;
       }
     where
-      told : (toldAll (next (b .last)) (lastLine (b .kept)) (deskBy (b .lent) 0) .output
-          ≡ toldAll (next (b .last)) (lastLine (b .kept)) (secondDesk b d) .output)
-          × Alike H a₀ b₀ (toldAll (next (b .last)) (lastLine (b .kept)) (deskBy (b .lent) 0) .board)
-          (toldAll (next (b .last)) (lastLine (b .kept)) (secondDesk b d) .board)
+      told : (linesOn (next (b .last)) (lastLine (b .kept)) (ioBy (b .lent) 0) .output
+          ≡ linesOn (next (b .last)) (lastLine (b .kept)) (secondIo b d) .output)
+          × Alike H a₀ b₀ (linesOn (next (b .last)) (lastLine (b .kept)) (ioBy (b .lent) 0) .board)
+          (linesOn (next (b .last)) (lastLine (b .kept)) (secondIo b d) .board)
       told =
-          desks-same H a₀ b₀ (next (b .last)) (lastLine (b .kept)) (boardOf (b .lent)) (boardOf (d .lent))
+          buffers-same H a₀ b₀ (next (b .last)) (lastLine (b .kept)) (boardOf (b .lent)) (boardOf (d .lent))
           (output (b .lent .buffer) 0) (l .boards) e
 
       outputs : output (x .left .buffer) (x .place) ≡ output (y .left .buffer) (y .place)
       outputs =
-          ap (λ (z : Desk). z .output) (end-first b x f) ∙ told .0
-          ∙ sym (ap (λ (z : Desk). z .output) (end-second b d y l g))
+          ap (λ (z : BoardIo). z .output) (end-first b x f) ∙ told .0
+          ∙ sym (ap (λ (z : BoardIo). z .output) (end-second b d y l g))
 
       boards : Alike H a₀ b₀ (boardOf (x .left)) (boardOf (y .left))
       boards =
-          let h = ap (λ (z : Desk). z .board) (end-first b x f) in
-          let k = ap (λ (z : Desk). z .board) (end-second b d y l g) in
+          let h = ap (λ (z : BoardIo). z .board) (end-first b x f) in
+          let k = ap (λ (z : BoardIo). z .board) (end-second b d y l g) in
           rw (h, k) (told .1)
 
 module _ (H : ℕ → Type 0) (a b : Cpu) (m n : Memory) (p : Apart H (board a m) (board b n)) where

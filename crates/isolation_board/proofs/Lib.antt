@@ -1,6 +1,6 @@
-pub mod Confined
+pub mod Confinement
 pub mod Lines
-pub mod Desks
+pub mod Buffers
 pub mod Exchanges
 pub mod Stepping
 pub mod Witness

@@ -7,16 +7,16 @@ use mathlib.Core.List.{_∷_}
 use native.Mathlib.Omega.{arith}
 use native.Mathlib.Nat.{zero-add}
 use lib.ListN.{getD}
-use Rattle.run.specs.Run.{Board, Turn, goes, ends, turn, confinedTurn, going, advance, refusal, unlessRefused, run}
-use Rattle.runs.specs.Code.{advanced, oneStep}
-use Rattle.isolation.specs.Course.{Order, confined, passing, passed, unlessBarred, course}
-use Rattle.isolation.proofs.Unconfined.{turn-same, run-same, run-code}
-use Rattle.isolation_board.specs.Stepping.{SteppedAlike, CourseStepped}
+use Rattle.run_spec.specs.Run.{Board, Turn, goes, ends, turn, confinedTurn, going, advance, refusal, unlessRefused, run}
+use Rattle.run.specs.Code.{stepResult, oneStep}
+use Rattle.isolation.specs.Execution.{RunRequest, confined, passing, passed, noneIfRefused, execution}
+use Rattle.isolation.proofs.UnconfinedLaws.{turn-same, run-same, run-code}
+use Rattle.isolation_board.specs.Stepping.{SteppedAlike, ExecutionStepped}
 
 pub stepped-alike : SteppedAlike
 stepped-alike level s h = rw (run-same 1 level s h, run-code 1 level s h) refl
 
--- a board of a course is left by the turn of the one before it
+-- a board of an execution is left by the turn of the one before it
 module _ (t : Board → Turn) (d : Board) where
   passed-next : (n budget k : ℕ) (s : Board) → n + k < advance t n budget s .steps
       → t (getD (s ∷ passed t budget s) k d) ≡ goes (getD (passed t budget s) k d)
@@ -32,23 +32,23 @@ module _ (t : Board → Turn) (d : Board) where
       go f (goes u) e (suc k) l = f k u (omega arith)
       go f (ends r c u) e k l = absurd (omega arith)
 
-course-next : (o : Order) (k : ℕ) (s d : Board) → k < confined o s .steps
-    → confinedTurn (o .level) (getD (s ∷ course o s) k d) ≡ goes (getD (course o s) k d)
-unfolding course run
-course-next o k s d l = go (refusal true (o .level) s) l
+execution-next : (o : RunRequest) (k : ℕ) (s d : Board) → k < confined o s .steps
+    → confinedTurn (o .level) (getD (s ∷ execution o s) k d) ≡ goes (getD (execution o s) k d)
+unfolding execution run
+execution-next o k s d l = go (refusal true (o .level) s) l
   where
     go : (r : ℕ) → k < unlessRefused r (advance (confinedTurn (o .level)) 0 (o .budget) s) s .steps
-        → confinedTurn (o .level) (getD (s ∷ unlessBarred r (passed (confinedTurn (o .level)) (o .budget) s)) k d)
-        ≡ goes (getD (unlessBarred r (passed (confinedTurn (o .level)) (o .budget) s)) k d)
+        → confinedTurn (o .level) (getD (s ∷ noneIfRefused r (passed (confinedTurn (o .level)) (o .budget) s)) k d)
+        ≡ goes (getD (noneIfRefused r (passed (confinedTurn (o .level)) (o .budget) s)) k d)
     go zero h = passed-next (confinedTurn (o .level)) d 0 (o .budget) k s (rw zero-add h)
     go (suc r) h = absurd (omega arith)
 
-step-goes : (level : ℕ) (s u : Board) → refusal false level s ≡ 0 → turn level s ≡ goes u → oneStep level s ≡ advanced 0 u
+step-goes : (level : ℕ) (s u : Board) → refusal false level s ≡ 0 → turn level s ≡ goes u → oneStep level s ≡ stepResult 0 u
 unfolding run advance
 step-goes level s u e f = rw (e, f) refl
 
-pub course-stepped : CourseStepped
-course-stepped o k s d l e =
-    let u = getD (s ∷ course o s) k d in
-    let v = getD (course o s) k d in
-    step-goes (o .level) u v e (turn-same (o .level) u v (course-next o k s d l))
+pub execution-stepped : ExecutionStepped
+execution-stepped o k s d l e =
+    let u = getD (s ∷ execution o s) k d in
+    let v = getD (execution o s) k d in
+    step-goes (o .level) u v e (turn-same (o .level) u v (execution-next o k s d l))

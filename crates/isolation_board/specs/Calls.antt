@@ -13,21 +13,21 @@ use Rattle.memory.specs.Bytes.{Memory}
 use Rattle.machine.specs.Registers.{Bank}
 use Rattle.machine.specs.Cache.{Cache}
 use Rattle.machine.specs.Status.{Cpu}
-use Rattle.run.specs.declared.Stopped.{Stopped}
-use Rattle.runs.proofs.running.run_lent as run-lent
-use Rattle.runs.proofs.running.run_lent.Reads as run-lent-contract
-use Rattle.conversation.specs.declared.Stream.{Stream}
-use Rattle.conversation.proofs.exchanges.converse as converse
-use Rattle.conversation.proofs.exchanges.converse.Reads as converse-contract
-use Rattle.conversation.proofs.exchanges.finish as finish
-use Rattle.conversation.proofs.exchanges.finish.Reads as finish-contract
+use Rattle.run_spec.specs.declared.Stopped.{Stopped}
+use Rattle.run.proofs.running.run_lent as run-lent
+use Rattle.run.proofs.running.run_lent.Reads as run-lent-contract
+use Rattle.board_conversation.specs.declared.LoopState.{LoopState}
+use Rattle.board_conversation.proofs.exchanges.converse as converse
+use Rattle.board_conversation.proofs.exchanges.converse.Reads as converse-contract
+use Rattle.board_conversation.proofs.exchanges.finish as finish
+use Rattle.board_conversation.proofs.exchanges.finish.Reads as finish-contract
 
 -- a reference's pointer and ghost name; no contract here says anything of them
-pub record Place : Type 0 where
+pub record Reference : Type 0 where
   pub ptr : ℕ × ℕ
   pub name : GName
 
-abbrev pub lentAt : {X : Type 0} → Place → X → RefT X
+abbrev pub lentAt : {X : Type 0} → Reference → X → RefT X
 lentAt p x = record { ptr = p .ptr; name = p .name; now = x }
 
 -- ---- `runs::running::run_lent`
@@ -35,9 +35,9 @@ lentAt p x = record { ptr = p .ptr; name = p .name; now = x }
 -- the lifetimes and references of a call
 pub record RunPlaces : Type 0 where
   pub lifetimes : Lfts 3
-  pub memory : Place
-  pub cache : Place
-  pub bank : Place
+  pub memory : Reference
+  pub cache : Reference
+  pub bank : Reference
 
 -- on the machine c and the memory m it answered x and left the machine d and the memory n
 abbrev pub RunLent : RunPlaces → Cpu → Memory → Bool → ℕ → ℕ → Stopped → Cpu → Memory → Type 0
@@ -58,38 +58,38 @@ RunLent p c m confined budget level x d n =
 
 pub record ExchangePlaces : Type 0 where
   pub lifetimes : Lfts 5
-  pub block : Place
-  pub memory : Place
-  pub cache : Place
-  pub bank : Place
-  pub buffer : Place
+  pub block : Reference
+  pub memory : Reference
+  pub cache : Reference
+  pub bank : Reference
+  pub buffer : Reference
 
 -- the board and the buffer that a call is lent, and that it leaves
-pub record Lent : Type 0 where
+pub record LentBoard : Type 0 where
   pub machine : Cpu
   pub memory : Memory
   pub buffer : List ℕ
 
-abbrev pub lentTo : ExchangePlaces → Lent → RefT Memory × (RefT Cache × (RefT Bank × (RefT (List ℕ) × Unit {0})))
+abbrev pub lentTo : ExchangePlaces → LentBoard → RefT Memory × (RefT Cache × (RefT Bank × (RefT (List ℕ) × Unit {0})))
 lentTo p s =
     let cache = lentAt (p .cache) (s .machine .cache) in
     let bank = lentAt (p .bank) (s .machine .bank) in
     (lentAt (p .memory) (s .memory), (cache, (bank, (lentAt (p .buffer) (s .buffer), tt))))
 
-abbrev pub leftBy : Lent → Memory × (Cache × (Bank × (List ℕ × Unit {0})))
+abbrev pub leftBy : LentBoard → Memory × (Cache × (Bank × (List ℕ × Unit {0})))
 leftBy s = (s .memory, (s .machine .cache, (s .machine .bank, (s .buffer, tt))))
 
 -- an exchange of the loop: what it was given beside them, its answer, and what it left
 pub record ExchangeCall : Type 0 where
   pub places : ExchangePlaces
-  pub stream : Stream
+  pub stream : LoopState
   pub end : ℕ
   pub block : List ℕ
-  pub answer : Stream
+  pub answer : LoopState
   pub blockLeft : List ℕ
-  pub left : Lent
+  pub left : LentBoard
 
-abbrev pub Converse : Lent → ExchangeCall → Type 0
+abbrev pub Converse : LentBoard → ExchangeCall → Type 0
 Converse s x =
     converse-contract.Asked lifetimes arguments
     → converse-contract.Learnt lifetimes arguments (x .answer) (atExit converse.ended lifetimes arguments left)
@@ -106,12 +106,12 @@ Converse s x =
 -- the end of input: what it was given, the place of the buffer that it answered, and what it left
 pub record LastCall : Type 0 where
   pub places : ExchangePlaces
-  pub stream : Stream
+  pub stream : LoopState
   pub block : List ℕ
   pub place : ℕ
-  pub left : Lent
+  pub left : LentBoard
 
-abbrev pub Finish : Lent → LastCall → Type 0
+abbrev pub Finish : LentBoard → LastCall → Type 0
 Finish s x =
     finish-contract.Asked lifetimes arguments
     → finish-contract.Learnt lifetimes arguments (x .place) (atExit finish.ended lifetimes arguments left)

@@ -7,10 +7,10 @@ use mathlib.Core.Bool.{true}
 use mathlib.Core.List.{List, [], _∷_}
 use Rattle.memory.specs.Bytes.{Memory}
 use Rattle.machine.specs.Status.{Cpu}
-use Rattle.run.specs.Run.{board}
-use Rattle.run.specs.declared.Stopped.{Stopped}
-use Rattle.isolation.specs.Sealed.{Agree, Kept}
-use Rattle.isolation.specs.Course.{Order}
+use Rattle.run_spec.specs.Run.{board}
+use Rattle.run_spec.specs.declared.Stopped.{Stopped}
+use Rattle.isolation.specs.Sealed.{Agree, HiddenKept}
+use Rattle.isolation.specs.Execution.{RunRequest}
 use Rattle.isolation.specs.Isolation.{Apart}
 use Rattle.isolation_board.specs.Calls.{RunPlaces, RunLent}
 
@@ -22,15 +22,15 @@ pub record Outcome : Type 0 where
   pub memory : Memory
 
 -- the call was a confined run of a machine on the memory m
-abbrev pub Answers : Cpu → Memory → Order → Outcome → Type 0
-Answers c m o x = RunLent (x .places) c m true (o .budget) (o .level) (x .answer) (x .machine) (x .memory)
+abbrev pub ConfinedCall : Cpu → Memory → RunRequest → Outcome → Type 0
+ConfinedCall c m o x = RunLent (x .places) c m true (o .budget) (o .level) (x .answer) (x .machine) (x .memory)
 
 -- the outcomes of a list of runs: each later one gets the machine and the memory that the last one left
-abbrev pub Answered : Cpu → Memory → List Order → List Outcome → Type 0
-Answered c m [] [] = Unit {0}
-Answered c m [] (x ∷ xs) = ⊥
-Answered c m (o ∷ os) [] = ⊥
-Answered c m (o ∷ os) (x ∷ xs) = Answers c m o x × Answered (x .machine) (x .memory) os xs
+abbrev pub ConfinedCalls : Cpu → Memory → List RunRequest → List Outcome → Type 0
+ConfinedCalls c m [] [] = Unit {0}
+ConfinedCalls c m [] (x ∷ xs) = ⊥
+ConfinedCalls c m (o ∷ os) [] = ⊥
+ConfinedCalls c m (o ∷ os) (x ∷ xs) = ConfinedCall c m o x × ConfinedCalls (x .machine) (x .memory) os xs
 
 -- two outcomes tell nothing of the hidden pages, and each side's hidden pages hold the bytes of m and of n
 pub record SameOutcome (Hidden : ℕ → Type 0) (m n : Memory) (x y : Outcome) : Type 0 where
@@ -39,8 +39,8 @@ pub record SameOutcome (Hidden : ℕ → Type 0) (m n : Memory) (x y : Outcome) 
   pub code : x .answer .code ≡ y .answer .code
   pub registers : x .machine ≡ y .machine
   pub others : Agree Hidden (x .memory) (y .memory)
-  pub first-a : Kept Hidden m (x .memory)
-  pub first-b : Kept Hidden n (y .memory)
+  pub first-a : HiddenKept Hidden m (x .memory)
+  pub first-b : HiddenKept Hidden n (y .memory)
 
 abbrev pub SameOutcomes : (ℕ → Type 0) → Memory → Memory → List Outcome → List Outcome → Type 0
 SameOutcomes Hidden m n [] [] = Unit {0}
@@ -52,4 +52,4 @@ SameOutcomes Hidden m n (x ∷ xs) (y ∷ ys) = SameOutcome Hidden m n x y × Sa
 abbrev pub Confinement : Type 1
 Confinement =
     (Hidden : ℕ → Type 0) (a b : Cpu) (m n : Memory) → Apart Hidden (board a m) (board b n)
-    → (os : List Order) (xs ys : List Outcome) → Answered a m os xs → Answered b n os ys → SameOutcomes Hidden m n xs ys
+    → (os : List RunRequest) (xs ys : List Outcome) → ConfinedCalls a m os xs → ConfinedCalls b n os ys → SameOutcomes Hidden m n xs ys

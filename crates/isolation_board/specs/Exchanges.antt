@@ -8,26 +8,26 @@ use mathlib.Core.List.{List, [], _∷_, _++_}
 use lib.ListN.{take, drop}
 use Rattle.memory.specs.Bytes.{Memory}
 use Rattle.machine.specs.Status.{Cpu}
-use Rattle.run.specs.Run.{Board, board}
-use Rattle.conversation.specs.Conversation.{next}
-use Rattle.conversation.specs.Stream.{exchangeLines, lastLine}
-use Rattle.isolation.specs.Sealed.{Agree, Kept}
+use Rattle.run_spec.specs.Run.{Board, board}
+use Rattle.board_conversation.specs.Conversation.{next}
+use Rattle.board_conversation.specs.Loop.{exchangeLines, lastLine}
+use Rattle.isolation.specs.Sealed.{Agree, HiddenKept}
 use Rattle.isolation.specs.Isolation.{Apart}
-use Rattle.isolation_board.specs.Calls.{Lent, ExchangeCall, Converse, LastCall, Finish}
-use Rattle.isolation_board.specs.Lines.{admits}
+use Rattle.isolation_board.specs.Calls.{LentBoard, ExchangeCall, Converse, LastCall, Finish}
+use Rattle.isolation_board.specs.Lines.{admitsLines}
 
 -- ---- exchanges, each going on from what the last one left
 
 -- between two exchanges: the board and the buffer, the number of the last line, and the bytes that are kept
 pub record Between : Type 0 where
-  pub lent : Lent
+  pub lent : LentBoard
   pub last : ℕ
   pub kept : List ℕ
 
-abbrev pub between : Lent → ℕ → List ℕ → Between
+abbrev pub between : LentBoard → ℕ → List ℕ → Between
 between s n k = record { lent = s; last = n; kept = k }
 
-abbrev pub boardOf : Lent → Board
+abbrev pub boardOf : LentBoard → Board
 boardOf s = board (s .machine) (s .memory)
 
 -- the bytes that an exchange is given, and those that it keeps
@@ -57,7 +57,7 @@ abbrev pub AdmittedExchanges : Between → List (List ℕ) → List ExchangeCall
 AdmittedExchanges b [] xs = Unit {0}
 AdmittedExchanges b (r ∷ rs) [] = Unit {0}
 AdmittedExchanges b (r ∷ rs) (x ∷ xs) =
-    (admits (next (b .last)) (exchangeLines (b .kept ++ r)) (boardOf (b .lent)) ≡ true) × AdmittedExchanges (afterExchange x) rs xs
+    (admitsLines (next (b .last)) (exchangeLines (b .kept ++ r)) (boardOf (b .lent)) ≡ true) × AdmittedExchanges (afterExchange x) rs xs
 
 -- the end of input after them
 abbrev pub afterAll : Between → List ExchangeCall → Between
@@ -73,17 +73,17 @@ pub record End (b : Between) (x : LastCall) : Type 0 where
   pub answers : Finish (b .lent) x
 
 abbrev pub AdmittedEnd : Between → Type 0
-AdmittedEnd b = admits (next (b .last)) (lastLine (b .kept)) (boardOf (b .lent)) ≡ true
+AdmittedEnd b = admitsLines (next (b .last)) (lastLine (b .kept)) (boardOf (b .lent)) ≡ true
 
 -- ---- what two calls left
 
 -- the boards and the buffers: equal but for the hidden pages, which hold the bytes of m and of n
-pub record SameLent (Hidden : ℕ → Type 0) (m n : Memory) (s t : Lent) : Type 0 where
+pub record SameLent (Hidden : ℕ → Type 0) (m n : Memory) (s t : LentBoard) : Type 0 where
   pub buffer : s .buffer ≡ t .buffer
   pub registers : s .machine ≡ t .machine
   pub others : Agree Hidden (s .memory) (t .memory)
-  pub first-a : Kept Hidden m (s .memory)
-  pub first-b : Kept Hidden n (t .memory)
+  pub first-a : HiddenKept Hidden m (s .memory)
+  pub first-b : HiddenKept Hidden n (t .memory)
 
 -- the place up to which the buffer is written out, the number of the last line, what is kept, and whether a line ends in it
 pub record SameExchange (Hidden : ℕ → Type 0) (m n : Memory) (x y : ExchangeCall) : Type 0 where

@@ -1,7 +1,7 @@
 pub mod Calls
 pub mod Confinement
 pub mod Lines
-pub mod Desks
+pub mod Buffers
 pub mod Exchanges
 pub mod Stepping
 pub mod Witness

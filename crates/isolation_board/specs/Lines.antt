@@ -6,27 +6,27 @@ use mathlib.Core.Bool.{Bool, true, false, _&&_}
 use mathlib.Core.List.{List, [], _∷_}
 use lib.Dec.{ltb}
 use Rattle.machine.specs.Registers.{setRegister}
-use Rattle.run.specs.Run.{Board, refusal}
-use Rattle.lines.specs.declared.Frame.{Frame}
-use Rattle.lines.specs.declared.Frame.the-variants.{Set, Store, Run, Confined, Bad}
-use Rattle.lines.specs.Lines.{frameOf}
-use Rattle.lines.specs.Stores.{storeOf}
-use Rattle.conversation.specs.Conversation.{lineAnswer, next, conversation}
+use Rattle.run_spec.specs.Run.{Board, refusal}
+use Rattle.board_lines.specs.declared.Frame.{Frame}
+use Rattle.board_lines.specs.declared.Frame.the-variants.{Set, Store, Run, Confined, Bad}
+use Rattle.board_lines.specs.Lines.{frameOf}
+use Rattle.board_lines.specs.Stores.{frameStore}
+use Rattle.board_conversation.specs.Conversation.{lineAnswer, next, conversation}
 use Rattle.isolation.specs.Isolation.{Same, Apart}
 
 -- frames that are "confined runs, refused ones included", or refused: 04; a bad line; 01, 02 and 03 with a number of the
 -- refusals, 03 before its first step
 abbrev pub admitsFrame : List ℕ → Board → Frame → Bool
 admitsFrame s b (Set place word) = ltb 0 (setRegister (b .cpu .bank) place word .refusal)
-admitsFrame s b (Store address) = ltb 0 (storeOf s (b .memory) address .refusal)
+admitsFrame s b (Store address) = ltb 0 (frameStore s (b .memory) address .refusal)
 admitsFrame s b (Run budget level) = ltb 0 (refusal false level b)
 admitsFrame s b (Confined budget level) = true
 admitsFrame s b Bad = true
 
 -- each line on the board that the lines before it left, the first of them line n; only one machine is judged
-abbrev pub admits : ℕ → List (List ℕ) → Board → Bool
-admits n [] b = true
-admits n (s ∷ t) b = admitsFrame s b (frameOf s) && admits (next n) t (lineAnswer n s b .board)
+abbrev pub admitsLines : ℕ → List (List ℕ) → Board → Bool
+admitsLines n [] b = true
+admitsLines n (s ∷ t) b = admitsFrame s b (frameOf s) && admitsLines (next n) t (lineAnswer n s b .board)
 
 -- the bytes of a line's answer are equal, and the boards after it are the same but for the hidden pages, which hold the
 -- bytes of a₀ and b₀
@@ -45,12 +45,12 @@ SameLines Hidden a₀ b₀ n (s ∷ t) a b =
 abbrev pub ConfinedLines : Type 1
 ConfinedLines =
     (Hidden : ℕ → Type 0) (a b : Board) → Apart Hidden a b
-    → (n : ℕ) (lines : List (List ℕ)) → admits n lines a ≡ true → SameLines Hidden a b n lines a b
+    → (n : ℕ) (lines : List (List ℕ)) → admitsLines n lines a ≡ true → SameLines Hidden a b n lines a b
 
 -- and so is all that the conversation prints; the boards after it are the same but for the hidden pages
 abbrev pub ConfinedConversation : Type 1
 ConfinedConversation =
     (Hidden : ℕ → Type 0) (a b : Board) → Apart Hidden a b
-    → (n : ℕ) (lines : List (List ℕ)) → admits n lines a ≡ true
+    → (n : ℕ) (lines : List (List ℕ)) → admitsLines n lines a ≡ true
     → (conversation n lines a .printed ≡ conversation n lines b .printed)
     × Same Hidden a b (conversation n lines a .board) (conversation n lines b .board)

@@ -4,11 +4,11 @@ use Prim.Native.Nat.{ℕ}
 use mathlib.Core.Path.{_≡_}
 use mathlib.Core.Bool.{true, false, _||_}
 use mathlib.Core.List.{List, [], _∷_, _++_}
-use Rattle.lines.specs.Digits.{digits}
-use Rattle.lines.specs.Answers.{refusedLine, ranLine}
-use Rattle.conversation.specs.Conversation.{conversation}
+use Rattle.board_lines.specs.Digits.{digits}
+use Rattle.board_lines.specs.Answers.{refusedLine, ranLine}
+use Rattle.board_conversation.specs.Conversation.{conversation}
 use Rattle.isolation_witness.specs.Witness.{nonpagedBoard}
-use Rattle.isolation_board.specs.Lines.{admits}
+use Rattle.isolation_board.specs.Lines.{admitsLines}
 
 unfoldable pub witnessLines : List (List ℕ)
 witnessLines =
@@ -25,14 +25,14 @@ witnessLines =
 
 -- on a machine that meets the premises of isolation
 abbrev pub WitnessAdmitted : Type 0
-WitnessAdmitted = admits 1 witnessLines (nonpagedBoard 1) ≡ true
+WitnessAdmitted = admitsLines 1 witnessLines (nonpagedBoard 1) ≡ true
 
 -- lines of kinds 01, 02 and 03 that are done are none of these: CONFIG set to 0, a byte stored at 0, a run of no step
 abbrev pub WitnessBarred : Type 0
 WitnessBarred =
-    (admits 1 (digits 12 0x0101_0000_0000 ∷ []) (nonpagedBoard 1)
-    || admits 1 (digits 12 0x0200_0000_0000 ∷ []) (nonpagedBoard 1)
-    || admits 1 (digits 12 0x0300_0000_0007 ∷ []) (nonpagedBoard 1))
+    (admitsLines 1 (digits 12 0x0101_0000_0000 ∷ []) (nonpagedBoard 1)
+    || admitsLines 1 (digits 12 0x0200_0000_0000 ∷ []) (nonpagedBoard 1)
+    || admitsLines 1 (digits 12 0x0300_0000_0007 ∷ []) (nonpagedBoard 1))
     ≡ false
 
 -- what it prints

@@ -1,4 +1,4 @@
-mod Laid
-mod Tests
-pub mod Witnesses
-pub mod Needed
+mod MemoryLaws
+mod TestLaws
+pub mod Witness
+pub mod Premises

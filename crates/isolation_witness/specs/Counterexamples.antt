@@ -8,9 +8,9 @@ use mathlib.Core.List.{[], _∷_}
 use lib.Dec.{eqb}
 use Rattle.machine.specs.Registers.{isp, pc}
 use Rattle.machine.specs.Status.{Cpu, with}
-use Rattle.run.specs.Run.{Board, board}
-use Rattle.isolation.specs.Course.{Report, report, confined}
-use Rattle.isolation_witness.specs.Memories.{Words, laid, userCpu, stepping}
+use Rattle.run_spec.specs.Run.{Board, board}
+use Rattle.isolation.specs.Execution.{Report, report, confined}
+use Rattle.isolation_witness.specs.Memories.{Words, memoryOf, userCpu, stepping}
 
 pub record Pair : Type 0 where
   pub cpu : Cpu
@@ -31,10 +31,10 @@ abbrev pub secondWords : Pair → Words
 secondWords t = (t .place, t .second) ∷ t .words
 
 abbrev pub firstBoard : Pair → Board
-firstBoard t = board (t .cpu) (laid (firstWords t))
+firstBoard t = board (t .cpu) (memoryOf (firstWords t))
 
 abbrev pub secondBoard : Pair → Board
-secondBoard t = board (t .cpu) (laid (secondWords t))
+secondBoard t = board (t .cpu) (memoryOf (secondWords t))
 
 abbrev pub sameReport : Report → Report → Bool
 sameReport x y =

@@ -9,8 +9,8 @@ use lib.Dec.{eqb}
 use Rattle.memory.specs.Bytes.{Memory}
 use Rattle.machine.specs.Registers.{Bank}
 use Rattle.machine.specs.Status.{Cpu, cpu}
-use Rattle.run.specs.Run.{Board, board}
-use Rattle.isolation.specs.Course.{Order}
+use Rattle.run_spec.specs.Run.{Board, board}
+use Rattle.isolation.specs.Execution.{RunRequest}
 
 -- places, and what stands there; the first that names a place counts
 abbrev pub Words : Type 0
@@ -29,8 +29,8 @@ unfoldable pub bytesFrom : Words → ℕ → ℕ → List ℕ
 bytesFrom ws a zero = []
 bytesFrom ws a (suc n) = let t = bytesFrom ws (suc a) n in byteOf (wordAt ws (a / 4 * 4)) (a % 4) ∷ t
 
-abbrev pub laid : Words → Memory
-laid ws = bytesFrom ws 0 0x4000
+abbrev pub memoryOf : Words → Memory
+memoryOf ws = bytesFrom ws 0 0x4000
 
 -- one page is hidden
 abbrev pub only : ℕ → ℕ → Type 0
@@ -44,8 +44,8 @@ abbrev pub userCpu : Cpu
 userCpu = cpu userBank (replicate 16 (replicate 4 0))
 
 abbrev pub userBoard : Words → Board
-userBoard ws = board userCpu (laid ws)
+userBoard ws = board userCpu (memoryOf ws)
 
 -- a run of so many steps, no interrupt
-abbrev pub stepping : ℕ → Order
+abbrev pub stepping : ℕ → RunRequest
 stepping n = record { budget = n; level = 7 }

@@ -6,15 +6,15 @@ use mathlib.Core.Logic.{_↔_}
 use mathlib.Core.Bool.{true}
 use mathlib.Core.List.{List}
 use Rattle.memory.specs.Bytes.{Memory}
-use Rattle.mmu.specs.declared.Kind.{Kind}
-use Rattle.mmu.specs.declared.Kind.the-variants.{Write}
+use Rattle.mmu.specs.declared.AccessKind.{AccessKind}
+use Rattle.mmu.specs.declared.AccessKind.the-variants.{Write}
 use Rattle.mmu.specs.declared.Walk.the-variants.{Paged}
 use Rattle.mmu.specs.Walk.{walk}
 use Rattle.machine.specs.Registers.{stb}
 use Rattle.machine.specs.Status.{reg}
-use Rattle.run.specs.Run.{Board}
+use Rattle.run_spec.specs.Run.{Board}
 use Rattle.isolation.specs.Sealed.{page, Leads, Reaches, SegmentWord, PageWord, TableWord, Sealed, Agree}
-use Rattle.isolation.specs.Course.{Order, confined, report}
+use Rattle.isolation.specs.Execution.{RunRequest, confined, report}
 use Rattle.isolation.specs.Isolation.{SameRuns}
 
 pub data Premise : Type 0 where
@@ -28,7 +28,7 @@ abbrev pub Assumption : Type 1
 Assumption = (ℕ → Type 0) → ℕ → Memory → Type 0
 
 abbrev pub Meets : Premise → Assumption
-Meets unreached H s m = (k : Kind) (pa : ℕ) → Leads s m k pa → H (page pa) → ⊥
+Meets unreached H s m = (k : AccessKind) (pa : ℕ) → Leads s m k pa → H (page pa) → ⊥
 Meets unhidden H s m = (w : ℕ) → TableWord s m w → H (page w) → ⊥
 Meets unwritten H s m = (w : ℕ) → TableWord s m w → Reaches s m w → ⊥
 Meets apart H s m = (w : ℕ) → SegmentWord s m w → PageWord s m w → ⊥
@@ -58,7 +58,7 @@ pub data Part : Type 0 where
 abbrev pub Partly : Part → Assumption
 Partly writesUnreached H s m = Without unreached H s m × ((pa : ℕ) → Leads s m Write pa → H (page pa) → ⊥)
 Partly pagedUnreached H s m =
-    Without unreached H s m × ((k : Kind) (va e pa : ℕ) → va < 2 ^ 32 → walk true s k va m ≡ Paged e pa → H (page pa) → ⊥)
+    Without unreached H s m × ((k : AccessKind) (va e pa : ℕ) → va < 2 ^ 32 → walk true s k va m ≡ Paged e pa → H (page pa) → ⊥)
 Partly segmentsUnhidden H s m = Without unhidden H s m × ((w : ℕ) → SegmentWord s m w → H (page w) → ⊥)
 Partly pagesUnhidden H s m = Without unhidden H s m × ((w : ℕ) → PageWord s m w → H (page w) → ⊥)
 Partly segmentsUnwritten H s m = Without unwritten H s m × ((w : ℕ) → SegmentWord s m w → Reaches s m w → ⊥)
@@ -70,30 +70,30 @@ Elsewhere H s m = (t : ℕ) × (t ≡ s → ⊥) × Sealed H t m
 
 -- two machines that are equal but for hidden pages, of which the first meets an assumption, and that answer one confined
 -- run otherwise
-pub record ToldApart (Met : Assumption) : Type 1 where
+pub record Distinguished (Premises : Assumption) : Type 1 where
   pub Hidden : ℕ → Type 0
   pub a : Board
   pub b : Board
   pub registers : a .cpu ≡ b .cpu
   pub others : Agree Hidden (a .memory) (b .memory)
-  pub met : Met Hidden (reg (a .cpu) stb) (a .memory)
-  pub order : Order
-  pub told : report (confined order a) ≡ report (confined order b) → ⊥
+  pub assumed : Premises Hidden (reg (a .cpu) stb) (a .memory)
+  pub request : RunRequest
+  pub distinguished : report (confined request a) ≡ report (confined request b) → ⊥
 
 abbrev pub EachNeeded : Type 1
-EachNeeded = (p : Premise) → ToldApart (Without p)
+EachNeeded = (p : Premise) → Distinguished (Without p)
 
 abbrev pub EachPartNeeded : Type 1
-EachPartNeeded = (p : Part) → ToldApart (Partly p)
+EachPartNeeded = (p : Part) → Distinguished (Partly p)
 
 abbrev pub OtherTable : Type 1
-OtherTable = ToldApart Elsewhere
+OtherTable = Distinguished Elsewhere
 
 -- so isolation with the other three alone is false
 abbrev pub IsolationUnder : Assumption → Type 1
-IsolationUnder Met =
+IsolationUnder Premises =
     (Hidden : ℕ → Type 0) (a b : Board) → a .cpu ≡ b .cpu → Agree Hidden (a .memory) (b .memory)
-    → Met Hidden (reg (a .cpu) stb) (a .memory) → (os : List Order) → SameRuns Hidden a b os a b
+    → Premises Hidden (reg (a .cpu) stb) (a .memory) → (os : List RunRequest) → SameRuns Hidden a b os a b
 
 abbrev pub FalseWithout : Type 1
 FalseWithout = (p : Premise) → IsolationUnder (Without p) → ⊥

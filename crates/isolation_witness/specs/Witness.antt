@@ -9,13 +9,13 @@ use Rattle.memory.specs.Bytes.{number}
 use Rattle.machine.specs.Registers.{Bank, fault, msp, sp}
 use Rattle.machine.specs.Cache.{Cache}
 use Rattle.machine.specs.Status.{Cpu, cpu, reg}
-use Rattle.run.specs.Run.{Board, board, Ended, budgetSpent, eventDue}
-use Rattle.isolation.specs.Course.{Order, confined, report, course}
+use Rattle.run_spec.specs.Run.{Board, board, RunResult, budgetSpent, eventDue}
+use Rattle.isolation.specs.Execution.{RunRequest, confined, report, execution}
 use Rattle.isolation.specs.Isolation.{Apart, SameRuns}
-use Rattle.isolation_witness.specs.Memories.{Words, laid, only, userBoard, stepping}
+use Rattle.isolation_witness.specs.Memories.{Words, memoryOf, only, userBoard, stepping}
 
 -- what an 83 line carries: steps, stop, code, PC, PSW
-abbrev pub reports : Ended → ℕ → ℕ → ℕ → ℕ → ℕ → Bool
+abbrev pub reports : RunResult → ℕ → ℕ → ℕ → ℕ → ℕ → Bool
 reports e n s c p w =
     eqb (report e .steps) n
     && eqb (report e .stop) s
@@ -23,14 +23,14 @@ reports e n s c p w =
     && eqb (report e .counter) p
     && eqb (report e .status) w
 
-abbrev pub holdsWord : Ended → ℕ → ℕ → Bool
+abbrev pub holdsWord : RunResult → ℕ → ℕ → Bool
 holdsWord e a v = eqb (number 4 (e .left .memory) a) v
 
-abbrev pub holdsWords : Ended → ℕ → List ℕ → Bool
+abbrev pub holdsWords : RunResult → ℕ → List ℕ → Bool
 holdsWords e a [] = true
 holdsWords e a (v ∷ vs) = holdsWord e a v && holdsWords e (a + 4) vs
 
-abbrev pub holdsRegister : Ended → ℕ → ℕ → Bool
+abbrev pub holdsRegister : RunResult → ℕ → ℕ → Bool
 holdsRegister e k v = eqb (reg (e .left .cpu) k) v
 
 -- the hidden word
@@ -54,21 +54,21 @@ abbrev pub pagedBoard : ℕ → Board
 pagedBoard h = userBoard (hiding h pagedWords)
 
 -- after one step 5 is in the word at 16, the hidden word is as it was; with paged entries Referenced and Modified are set
-abbrev pub stored : ℕ → Ended → Bool
-stored h e = reports e 1 budgetSpent 0 2 0x1_0400 && holdsWord e 16 5 && holdsWord e 0x3000 h
+abbrev pub storedFive : ℕ → RunResult → Bool
+storedFive h e = reports e 1 budgetSpent 0 2 0x1_0400 && holdsWord e 16 5 && holdsWord e 0x3000 h
 
-abbrev pub storedPaged : ℕ → Ended → Bool
-storedPaged h e = stored h e && holdsWord e 0x2000 0x1F
+abbrev pub storedPaged : ℕ → RunResult → Bool
+storedPaged h e = storedFive h e && holdsWord e 0x2000 0x1F
 
--- the FAULT of each board of a course of two steps: after the step, and after the attempt
-abbrev pub attempted : List ℕ → Bool
-attempted l = eqb (length l) 2 && eqb (getD l 0 1) 0 && eqb (getD l 1 0) 0x70A4_6404
+-- the FAULT of each board of an execution of two steps: after the step, and after the attempt
+abbrev pub faultsAlong : List ℕ → Bool
+faultsAlong l = eqb (length l) 2 && eqb (getD l 0 1) 0 && eqb (getD l 1 0) 0x70A4_6404
 
 unfoldable pub trials : ℕ → Bool
 trials h =
-    stored h (confined (stepping 1) (nonpagedBoard h))
+    storedFive h (confined (stepping 1) (nonpagedBoard h))
     && storedPaged h (confined (stepping 1) (pagedBoard h))
-    && attempted (map (λ s. reg (s .cpu) fault) (course (stepping 2) (nonpagedBoard h)))
+    && faultsAlong (map (λ s. reg (s .cpu) fault) (execution (stepping 2) (nonpagedBoard h)))
 
 -- ---- two runs with the stack cache on and SP current: ENTER flushes two quad-words, then a read is not mapped
 
@@ -87,17 +87,17 @@ abbrev pub stackWords : Words
 stackWords = (0, 0x08FE_6501) ∷ (0x1000, 0x2001) ∷ (0x2000, 0x0D) ∷ (0x2004, 0x07) ∷ []
 
 abbrev pub stackBoard : ℕ → Board
-stackBoard h = board stackCpu (laid (hiding h stackWords))
+stackBoard h = board stackCpu (memoryOf (hiding h stackWords))
 
-abbrev pub twoRuns : List Order
+abbrev pub twoRuns : List RunRequest
 twoRuns = stepping 1 ∷ stepping 5 ∷ []
 
 -- the flushed words
-abbrev pub flushed : Ended → Bool
+abbrev pub flushed : RunResult → Bool
 flushed e = holdsWords e 0x700 (11 ∷ 12 ∷ 13 ∷ 14 ∷ 15 ∷ 16 ∷ 17 ∷ 18 ∷ [])
 
 -- after the first run: the entry of the stack has its bits, and the hidden word is as it was
-abbrev pub entered : ℕ → Ended → Bool
+abbrev pub entered : ℕ → RunResult → Bool
 entered h e =
     reports e 1 budgetSpent 0 2 0x1_0E00
     && holdsRegister e sp 0x1600
@@ -107,20 +107,20 @@ entered h e =
     && holdsWord e 0x3000 h
 
 -- after the second: a read fault
-abbrev pub faulted : ℕ → Ended → Bool
-faulted h e = reports e 0 eventDue 0x8 2 0x1_0E00 && holdsRegister e fault 0x5000 && flushed e && holdsWord e 0x3000 h
+abbrev pub faultedRead : ℕ → RunResult → Bool
+faultedRead h e = reports e 0 eventDue 0x8 2 0x1_0E00 && holdsRegister e fault 0x5000 && flushed e && holdsWord e 0x3000 h
 
 -- a test for each run of a list, on what it ended with
-abbrev pub testing : (Ended → Bool) → (Board → Bool) → Ended → Bool
+abbrev pub testing : (RunResult → Bool) → (Board → Bool) → RunResult → Bool
 testing t next e = t e && next (e .left)
 
-abbrev pub tests : List (Ended → Bool) → List Order → Board → Bool
+abbrev pub tests : List (RunResult → Bool) → List RunRequest → Board → Bool
 tests (t ∷ ts) (o ∷ os) s = testing t (λ u. tests ts os u) (confined o s)
 tests [] os s = true
 tests (t ∷ ts) [] s = false
 
 unfoldable pub flushes : ℕ → Bool
-flushes h = tests (entered h ∷ faulted h ∷ []) twoRuns (stackBoard h)
+flushes h = tests (entered h ∷ faultedRead h ∷ []) twoRuns (stackBoard h)
 
 -- ---- the statements
 

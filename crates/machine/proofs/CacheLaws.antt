@@ -15,7 +15,7 @@ use Rattle.word.specs.declared.Width.the-variants.{Word}
 use Rattle.word.specs.Widths.{bytesOf}
 use Rattle.machine.specs.Cache.{Cache, cacheWord, putWord, below, part, inserted, cacheRead, cacheWrite}
 use Rattle.machine.specs.Shapes.{CacheShape}
-use Rattle.machine.proofs.Digits.{lowBit, replaced-shifted, part-field, inserted-replaced, part-inserted, part-after, part-before}
+use Rattle.machine.proofs.DigitLaws.{lowBit, replaced-shifted, part-field, inserted-replaced, part-inserted, part-after, part-before}
 
 -- the word at an address, by the fields i and j of it
 pub word-by-fields : (q : Cache) (a i j : ℕ) → i ≡ a / 16 % 16 → j ≡ a / 4 % 4 → getD (getD q i []) j 0 ≡ cacheWord q a

@@ -1,10 +1,10 @@
 pub mod BankLaws
 pub mod CacheLaws
-pub mod Digits
-pub mod Flat
+pub mod DigitLaws
+pub mod FlatLaws
 pub mod RecordLaws
 pub mod RegisterLaws
-pub mod Sizes
-pub mod Words
-pub mod Tests
+pub mod SizeLaws
+pub mod WordLaws
+pub mod TestLaws
 pub mod AssignLaws

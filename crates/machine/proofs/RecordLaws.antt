@@ -15,8 +15,8 @@ use Rattle.machine.specs.Cache.{Cache, quadsOf, flatOf}
 use Rattle.machine.specs.Status.{cpu}
 use Rattle.machine.specs.Record.{dueWord, isDue, dues, bankOf, cpuOf, wordsTo, machineOf}
 use Rattle.machine.specs.Shapes.{BankShape, CacheShape}
-use Rattle.machine.proofs.Words.{words-all, words-front}
-use Rattle.machine.proofs.Flat.{flat-quads, quads-flat}
+use Rattle.machine.proofs.WordLaws.{words-all, words-front}
+use Rattle.machine.proofs.FlatLaws.{flat-quads, quads-flat}
 
 abbrev pub machine : List ℕ → List ℕ → Bool → Bool → Bool → Bool → Machine
 machine r f t a b n =

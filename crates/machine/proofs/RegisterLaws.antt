@@ -7,14 +7,14 @@ use native.Mathlib.Numerals.{add-one}
 use native.Mathlib.Omega.{arith}
 use lib.ListN.{getD, List·getD-eq-default}
 use lib.Bits.{bitAnd, and-high}
-use Rattle.machine.specs.Registers.{Bank, word, lowBits, bitCounts, kept, clean, cleanBelow, stackHeld, goodBank, sp, msp}
+use Rattle.machine.specs.Registers.{Bank, word, lowBits, bitCounts, unreserved, clean, cleanBelow, stackHeld, goodBank, sp, msp}
 use Rattle.machine.specs.Masks.{maskOf}
 
 -- past the registers there is no reserved bit
 pub mask-rest : (k : ℕ) → 13 ≤ k → 0xFFFF_FFFF ≡ maskOf k
 mask-rest k h = rw (List·getD-eq-default bitCounts 32 {n = k} h, List·getD-eq-default lowBits 0 {n = k} h) refl
 
-pub kept-masked : (k v x : ℕ) → x ≡ maskOf k → bitAnd v x ≡ kept k v
+pub kept-masked : (k v x : ℕ) → x ≡ maskOf k → bitAnd v x ≡ unreserved k v
 kept-masked k v x e = ap (bitAnd v) e ∙ and-high v (getD bitCounts k 32) (getD lowBits k 0)
 
 -- the first n registers looked at

@@ -8,7 +8,7 @@ use lib.Dec.{eqb}
 use Rattle.machine.specs.declared.Machine.{Machine}
 use Rattle.machine.specs.declared.Reading.{Reading}
 use Rattle.machine.specs.Registers.{Bank, word, traceDue, timer1Due, timer2Due, nmiTaken}
-use Rattle.machine.specs.Registers.{goodBank, badRegister, isRegister}
+use Rattle.machine.specs.Registers.{goodBank, registerRefused, isRegisterPlace}
 use Rattle.machine.specs.Cache.{Cache, quadsOf, flatOf}
 use Rattle.machine.specs.Status.{Cpu, cpu}
 
@@ -51,7 +51,7 @@ zeroCache = replicate 16 (replicate 4 0)
 
 -- 0, or the refusal of a machine whose registers are bad
 abbrev pub refusalOf : Machine → ℕ
-refusalOf m = cond (goodBank (bankOf m)) 0 badRegister
+refusalOf m = cond (goodBank (bankOf m)) 0 registerRefused
 
 -- ---- a register read
 
@@ -60,4 +60,4 @@ reading r v = record { refusal = r; value = v }
 
 -- the register at place p of Table 1-1; a refusal has the value 0
 unfoldable pub readingOf : Bank → ℕ → Reading
-readingOf b p = cond (isRegister p) (reading 0 (word b (p - 1))) (reading badRegister 0)
+readingOf b p = cond (isRegisterPlace p) (reading 0 (word b (p - 1))) (reading registerRefused 0)

@@ -5,7 +5,7 @@ use mathlib.Core.Bool.{Bool, true, cond, not, _&&_, _||_}
 use mathlib.Core.List.{List, [], _∷_}
 use lib.ListN.{getD, set}
 use lib.Dec.{eqb, leb}
-use Rattle.bits.specs.Bits.{fieldOf}
+use Rattle.word.specs.Fields.{fieldOf}
 
 -- ---- the bank: places of Table 1-1 less one, then the trace and the timer overflows that are due, each 1 or 0, and
 -- whether input 0 was taken and no look has found another level since
@@ -89,16 +89,16 @@ abbrev pub bitCounts : List ℕ
 bitCounts = 16 ∷ 32 ∷ 32 ∷ 28 ∷ 28 ∷ 31 ∷ 13 ∷ 28 ∷ 28 ∷ 21 ∷ 32 ∷ 32 ∷ 28 ∷ []
 
 -- a word with the reserved bits of register k 0
-abbrev pub kept : ℕ → ℕ → ℕ
-kept k v = fieldOf v (getD lowBits k 0) (getD bitCounts k 32) * 2 ^ getD lowBits k 0
+abbrev pub unreserved : ℕ → ℕ → ℕ
+unreserved k v = fieldOf v (getD lowBits k 0) (getD bitCounts k 32) * 2 ^ getD lowBits k 0
 
 abbrev pub clean : ℕ → ℕ → Bool
-clean k v = eqb (kept k v) v
+clean k v = eqb (unreserved k v) v
 
 -- ---- refusal 2, "bad register": unknown register, a reserved bit set, or MSP not in SP to SP + 256, a plain sum
 
-abbrev pub badRegister : ℕ
-badRegister = 2
+abbrev pub registerRefused : ℕ
+registerRefused = 2
 
 abbrev pub stackHeld : ℕ → ℕ → Bool
 stackHeld s m = leb s m && leb m (s + 256)
@@ -114,8 +114,8 @@ goodBank b = cleanBelow 13 b && stackHeld (word b sp) (word b msp)
 -- ---- frame 01: the register at place p of Table 1-1 set to a word; SP sets MSP, ID ignores it
 
 -- what is due is no register
-abbrev pub isRegister : ℕ → Bool
-isRegister p = leb 1 p && leb p 13
+abbrev pub isRegisterPlace : ℕ → Bool
+isRegisterPlace p = leb 1 p && leb p 13
 
 abbrev pub settable : Bank → ℕ → ℕ → Bool
 settable b k v = clean k v && (not (eqb k msp) || stackHeld (word b sp) v)
@@ -133,7 +133,7 @@ setting r b = record { refusal = r; bank = b }
 
 unfoldable pub setRegister : Bank → ℕ → ℕ → Setting
 setRegister b p v =
-    cond (isRegister p && settable b (p - 1) v) (setting 0 (assigned b (p - 1) v)) (setting badRegister b)
+    cond (isRegisterPlace p && settable b (p - 1) v) (setting 0 (assigned b (p - 1) v)) (setting registerRefused b)
 
 -- ---- the start: ID 0x0000003B, every other register 0, nothing due
 

@@ -4,10 +4,11 @@ use Prim.Native.Nat.{ℕ}
 use mathlib.Core.Bool.{Bool, false, cond, _&&_}
 use lib.ListN.{set}
 use lib.Dec.{leb, ltb}
-use Rattle.bits.specs.Bits.{bitOf}
+use Rattle.word.specs.Fields.{bitOf}
 use Rattle.mmu.specs.declared.Regime.{Regime}
 use Rattle.machine.specs.Registers.{Bank, word, config, msp, psw, sp, isp, stb}
 use Rattle.machine.specs.Cache.{Cache}
+use Rattle.machine.specs.Bits.{spCurrentBit, userLevelBit, userLittleBit, virtualBit, kernelLittleBit, stackCacheBit}
 
 -- registers and cache: all of a machine but its memory
 pub record Cpu : Type 0 where
@@ -24,15 +25,14 @@ reg c k = word (c .bank) k
 abbrev pub with : Cpu → ℕ → ℕ → Cpu
 with c k v = cpu (set (c .bank) k v) (c .cache)
 
--- PSW: virtual addressing 16, user level 10, SP current 9, user little-endian 15
 abbrev pub isVirtual : Bank → Bool
-isVirtual b = bitOf (word b psw) 16
+isVirtual b = bitOf (word b psw) virtualBit
 
 abbrev pub isUser : Bank → Bool
-isUser b = bitOf (word b psw) 10
+isUser b = bitOf (word b psw) userLevelBit
 
 abbrev pub spCurrent : Bank → Bool
-spCurrent b = bitOf (word b psw) 9
+spCurrent b = bitOf (word b psw) spCurrentBit
 
 -- the current stack pointer's place in the bank
 abbrev pub csp : Bank → ℕ
@@ -40,11 +40,11 @@ csp b = cond (spCurrent b) sp isp
 
 -- HOUSE: "PSW bit 15 chooses at user level, CONFIG bit 16 at kernel level"
 abbrev pub isLittle : Bank → Bool
-isLittle b = cond (isUser b) (bitOf (word b psw) 15) (bitOf (word b config) 16)
+isLittle b = cond (isUser b) (bitOf (word b psw) userLittleBit) (bitOf (word b config) kernelLittleBit)
 
 -- "With CONFIG bit 18 set and SP current, a data access at an address from SP up to but not including MSP is to the cache"
 abbrev pub cacheOn : Bank → Bool
-cacheOn b = bitOf (word b config) 18 && spCurrent b
+cacheOn b = bitOf (word b config) stackCacheBit && spCurrent b
 
 abbrev pub cached : Bank → ℕ → Bool
 cached b a = cacheOn b && leb (word b sp) a && ltb a (word b msp)

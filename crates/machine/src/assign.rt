@@ -1,6 +1,9 @@
 // Registers of a bank by their place in Table 1-1: set by frame 01, read; and the refusal of bad ones.
+use crate::Bank;
 use crate::Machine;
 use crate::Reading;
+use crate::places::MSP;
+use crate::places::SP;
 use crate::record::bank;
 use crate::registers::clean;
 use crate::registers::good_bank;
@@ -19,14 +22,14 @@ pub fn refusal(m: Machine) -> u32
 }
 
 // Whether the register at place k of the bank takes a word: no reserved bit, and MSP not away from SP.
-fn takes(b: &[u32; 17], k: u32, v: u32) -> bool
+fn takes(b: &Bank, k: u32, v: u32) -> bool
     ensures { λ r. ⌜ r ≡ settable (now (b .entry)) k v ⌝ }
 {
-    clean(k, v) & ((k != 4) | stack_held(b[8], v))
+    clean(k, v) & ((k != 4) | stack_held(b[SP], v))
 }
 
 // The register at place k of the bank set: ID keeps its word, SP sets MSP too.
-fn assign(b: &mut [u32; 17], k: u32, v: u32)
+fn assign(b: &mut Bank, k: u32, v: u32)
     requires { ⌜ k < 13 ⌝ }
     ensures { λ _. ⌜ now (b .exit) ≡ assigned (now (b .entry)) k v ⌝ }
 {
@@ -34,8 +37,8 @@ fn assign(b: &mut [u32; 17], k: u32, v: u32)
         return;
     }
     if k == 8 {
-        b[8] = v;
-        b[4] = v;
+        b[SP] = v;
+        b[MSP] = v;
         return;
     }
     let i = k as usize;
@@ -43,7 +46,7 @@ fn assign(b: &mut [u32; 17], k: u32, v: u32)
 }
 
 // The register at a place of Table 1-1 set to a word: 0, or refusal 2 and the bank as it was.
-pub fn set_register(b: &mut [u32; 17], place: u32, value: u32) -> u32
+pub fn set_register(b: &mut Bank, place: u32, value: u32) -> u32
     ensures { λ r. ⌜ setting r (now (b .exit)) ≡ setRegister (now (b .entry)) place value ⌝ }
 {
     if place < 1 {
@@ -60,7 +63,7 @@ pub fn set_register(b: &mut [u32; 17], place: u32, value: u32) -> u32
 }
 
 // The register at a place of Table 1-1, or refusal 2.
-pub fn read_register(b: &[u32; 17], place: u32) -> Reading
+pub fn read_register(b: &Bank, place: u32) -> Reading
     ensures { λ r. ⌜ r ≡ readingOf (now (b .entry)) place ⌝ }
 {
     if place < 1 {

@@ -1,13 +1,14 @@
 // The stack cache: sixteen quad-words of four words, and the flat array of them.
-use bits::field;
+use crate::Quads;
 use word::Width;
+use word::fields::field;
 ghost use mathlib.Core.Path.{_≡_};
 ghost use Prim.Native.Nat.{_-_, _%_, _^_, _≤_, _<_};
 ghost use Rattle.word.specs.Widths.{bytesOf};
 ghost use Rattle.machine.specs.Cache.{cacheWord, putWord, part, inserted, cacheRead, cacheWrite, quadOf, quadsOf, flatOf};
 
 // The word at an address.
-pub fn cache_word(q: &[[u32; 4]; 16], a: u32) -> u32
+pub fn cache_word(q: &Quads, a: u32) -> u32
     ensures { λ r. ⌜ r ≡ cacheWord (now (q .entry)) a ⌝ }
 {
     let i = field(a, 4, 4) as usize;
@@ -16,7 +17,7 @@ pub fn cache_word(q: &[[u32; 4]; 16], a: u32) -> u32
 }
 
 // The word at an address, replaced.
-pub fn put_word(q: &mut [[u32; 4]; 16], a: u32, v: u32)
+pub fn put_word(q: &mut Quads, a: u32, v: u32)
     ensures { λ r. ⌜ now (q .exit) ≡ putWord (now (q .entry)) a v ⌝ }
 {
     let i = field(a, 4, 4) as usize;
@@ -61,7 +62,7 @@ fn insert(n: u32, a: u32, v: u32, w: u32) -> u32
 }
 
 // w bytes at an address, as an unsigned number.
-pub fn cache_read(w: Width, q: &[[u32; 4]; 16], a: u32) -> u32
+pub fn cache_read(w: Width, q: &Quads, a: u32) -> u32
     ensures { λ r. ⌜ r ≡ cacheRead (bytesOf w) (now (q .entry)) a ⌝ }
 {
     let x = cache_word(q, a);
@@ -73,7 +74,7 @@ pub fn cache_read(w: Width, q: &[[u32; 4]; 16], a: u32) -> u32
 }
 
 // The low w bytes of v, at an address.
-pub fn cache_write(w: Width, q: &mut [[u32; 4]; 16], a: u32, v: u32)
+pub fn cache_write(w: Width, q: &mut Quads, a: u32, v: u32)
     ensures { λ r. ⌜ now (q .exit) ≡ cacheWrite (bytesOf w) (now (q .entry)) a v ⌝ }
 {
     let x = held(cache_word(q, a));
@@ -98,7 +99,7 @@ fn quad(flat: &[u32; 64], i: usize) -> [u32; 4]
 }
 
 // The quad-words of a flat array.
-pub fn quads(flat: [u32; 64]) -> [[u32; 4]; 16]
+pub fn quads(flat: [u32; 64]) -> Quads
     ensures { λ r. ⌜ r ≡ quadsOf flat ⌝ }
 {
     let mut q = [[0u32; 4]; 16];
@@ -109,7 +110,7 @@ pub fn quads(flat: [u32; 64]) -> [[u32; 4]; 16]
 }
 
 // The flat array of quad-words.
-pub fn flat(q: &[[u32; 4]; 16]) -> [u32; 64]
+pub fn flat(q: &Quads) -> [u32; 64]
     ensures { λ r. ⌜ r ≡ flatOf (now (q .entry)) ⌝ }
 {
     let mut f = [0u32; 64];

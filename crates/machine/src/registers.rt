@@ -1,6 +1,9 @@
 // The registers: the numbers that name them, the bits that they keep, and when a bank of them is good.
+use crate::Bank;
+use crate::places::MSP;
+use crate::places::SP;
 ghost use mathlib.Core.Path.{_≡_};
-ghost use Rattle.machine.specs.Registers.{registerOf, kept as keptOf, clean as cleanOf, stackHeld, cleanBelow, goodBank};
+ghost use Rattle.machine.specs.Registers.{registerOf, unreserved as keptOf, clean as cleanOf, stackHeld, cleanBelow, goodBank};
 ghost use Rattle.machine.specs.Masks.{maskOf};
 
 // Table 1-24: the place of the register that a number names after a CPU prefix; 17 where there is none.
@@ -48,7 +51,7 @@ fn mask(k: u32) -> u32
 }
 
 // A word with the reserved bits of the register at a place 0.
-pub fn kept(k: u32, v: u32) -> u32
+pub fn unreserved(k: u32, v: u32) -> u32
     ensures { λ r. ⌜ r ≡ keptOf k v ⌝ }
 {
     v & mask(k)
@@ -58,7 +61,7 @@ pub fn kept(k: u32, v: u32) -> u32
 pub fn clean(k: u32, v: u32) -> bool
     ensures { λ r. ⌜ r ≡ cleanOf k v ⌝ }
 {
-    kept(k, v) == v
+    unreserved(k, v) == v
 }
 
 // Whether MSP is from SP to SP + 256, a plain sum.
@@ -69,7 +72,7 @@ pub fn stack_held(sp: u32, msp: u32) -> bool
 }
 
 // Whether no register has a reserved bit set.
-fn clean_registers(b: &[u32; 17]) -> bool
+fn clean_registers(b: &Bank) -> bool
     ensures { λ r. ⌜ r ≡ cleanBelow 13 (now (b .entry)) ⌝ }
 {
     let mut ok = true;
@@ -80,8 +83,8 @@ fn clean_registers(b: &[u32; 17]) -> bool
 }
 
 // Whether no register has a reserved bit set, and MSP is where it must be.
-pub fn good_bank(b: &[u32; 17]) -> bool
+pub fn good_bank(b: &Bank) -> bool
     ensures { λ r. ⌜ r ≡ goodBank (now (b .entry)) ⌝ }
 {
-    clean_registers(b) & stack_held(b[8], b[4])
+    clean_registers(b) & stack_held(b[SP], b[MSP])
 }

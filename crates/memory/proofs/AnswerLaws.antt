@@ -6,27 +6,28 @@ use Prim.Native.Nat.{ℕ, _+_, _%_, _^_, _≤_, _<_}
 use native.Mathlib.Omega.{arith}
 use lib.Dec.{ltb}
 use borrow.Author.Tests.{lt-ltb, le-ltb}
-use Rattle.memory.specs.Answers.{Answer, got, bad, answerOf, busFault}
+use Rattle.memory.specs.Exceptions.{busFault}
+use Rattle.memory.specs.Answers.{Answer, good, raised, answerOf}
 use Rattle.memory.specs.Bytes.{Memory, number, holds, load}
 
 abbrev pub numberOf : Answer → ℕ
-numberOf (got v) = v
-numberOf (bad c) = c
+numberOf (good v) = v
+numberOf (raised c) = c
 
-pub answer-low : (x : ℕ) → x < 2 ^ 32 → answerOf x ≡ got (x % 2 ^ 32)
+pub answer-low : (x : ℕ) → x < 2 ^ 32 → answerOf x ≡ good (x % 2 ^ 32)
 unfolding answerOf
 answer-low x h = simp (lt-ltb _ _ h)
 
-pub answer-high : (x : ℕ) → 2 ^ 32 ≤ x → answerOf x ≡ bad (x % 2 ^ 32)
+pub answer-high : (x : ℕ) → 2 ^ 32 ≤ x → answerOf x ≡ raised (x % 2 ^ 32)
 unfolding answerOf
 answer-high x h = simp (le-ltb _ _ h)
 
 -- the numbers that stand for a value and for an exception
-pub answer-got : (v : ℕ) → v < 2 ^ 32 → answerOf v ≡ got v
+pub answer-got : (v : ℕ) → v < 2 ^ 32 → answerOf v ≡ good v
 unfolding answerOf
 answer-got v h = let e : v % 2 ^ 32 ≡ v = omega arith in simp (lt-ltb _ _ h, e)
 
-pub answer-bad : (c : ℕ) → c < 2 ^ 32 → answerOf (2 ^ 32 + c) ≡ bad c
+pub answer-bad : (c : ℕ) → c < 2 ^ 32 → answerOf (2 ^ 32 + c) ≡ raised c
 unfolding answerOf
 answer-bad c h =
     let e : (2 ^ 32 + c) % 2 ^ 32 ≡ c = omega arith in
@@ -38,7 +39,7 @@ pub answer-number : (x : ℕ) (a : Answer) → answerOf x ≡ a → x % 2 ^ 32 �
 unfolding answerOf
 answer-number x a e = go (ltb x (2 ^ 32)) ∙ ap numberOf e
   where
-    go : (b : Bool) → x % 2 ^ 32 ≡ numberOf (cond b (got (x % 2 ^ 32)) (bad (x % 2 ^ 32)))
+    go : (b : Bool) → x % 2 ^ 32 ≡ numberOf (cond b (good (x % 2 ^ 32)) (raised (x % 2 ^ 32)))
     go true = refl
     go false = refl
 
@@ -46,13 +47,13 @@ answer-number x a e = go (ltb x (2 ^ 32)) ∙ ap numberOf e
 module _ (n : ℕ) (m : Memory) (a x : ℕ) (e : answerOf x ≡ load n m a) where
   pub load-held : holds m a n ≡ true → x % 2 ^ 32 ≡ number n m a
   unfolding load
-  load-held h = answer-number x (got (number n m a)) (e ∙ rw h)
+  load-held h = answer-number x (good (number n m a)) (e ∙ rw h)
 
   pub load-inside : x < 2 ^ 32 → holds m a n ≡ true
   unfolding load
   load-inside l = go (holds m a n) (sym (answer-low x l) ∙ e)
     where
-      go : (b : Bool) → got (x % 2 ^ 32) ≡ cond b (got (number n m a)) (bad busFault) → b ≡ true
+      go : (b : Bool) → good (x % 2 ^ 32) ≡ cond b (good (number n m a)) (raised busFault) → b ≡ true
       go true f = refl
       go false f = cc
 
@@ -60,6 +61,6 @@ module _ (n : ℕ) (m : Memory) (a x : ℕ) (e : answerOf x ≡ load n m a) wher
   unfolding load
   load-outside l = go (holds m a n) (sym (answer-high x l) ∙ e)
     where
-      go : (b : Bool) → bad (x % 2 ^ 32) ≡ cond b (got (number n m a)) (bad busFault) → b ≡ false
+      go : (b : Bool) → raised (x % 2 ^ 32) ≡ cond b (good (number n m a)) (raised busFault) → b ≡ false
       go true f = cc
       go false f = refl

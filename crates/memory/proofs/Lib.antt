@@ -1,4 +1,4 @@
-mod Exits
+mod StoreLaws
 pub mod AnswerLaws
-pub mod Laws
+pub mod ByteLaws
 pub mod PlaceLaws

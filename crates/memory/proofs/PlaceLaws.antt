@@ -7,12 +7,12 @@ use native.Mathlib.Omega.{arith}
 use lib.Bits.{bitXor, xor-block, xor-zero-r}
 use lib.ListN.{length}
 use lib.Pow.{split}
-use Rattle.laws.proofs.Match.{within}
+use Rattle.word.proofs.MatchLaws.{within}
 use Rattle.word.specs.declared.Width.{Width}
 use Rattle.word.specs.declared.Width.the-variants.{Byte, Half, Word}
 use Rattle.word.specs.Widths.{bytesOf}
 use Rattle.memory.specs.Bytes.{Memory, byteAt, number, stored, flipped, placeOf}
-use Rattle.memory.proofs.Laws.{byte-stored, number-part}
+use Rattle.memory.proofs.ByteLaws.{byte-stored, number-part}
 
 -- the low two bits are complemented by themselves
 xor-low : (a k : ℕ) → k < 4 → bitXor a k ≡ a / 4 * 4 + bitXor (a % 4) k

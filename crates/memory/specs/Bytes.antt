@@ -8,7 +8,8 @@ use lib.Dec.{leb, eqb}
 use lib.Bits.{bitXor}
 use Rattle.word.specs.declared.Width.{Width}
 use Rattle.word.specs.declared.Width.the-variants.{Byte, Half, Word}
-use Rattle.memory.specs.Answers.{Answer, got, bad, busFault}
+use Rattle.memory.specs.Exceptions.{busFault}
+use Rattle.memory.specs.Answers.{Answer, good, raised}
 
 abbrev pub Memory : Type 0
 Memory = List ℕ
@@ -31,10 +32,10 @@ holds m a n = leb (a + n) (length m)
 
 -- a load and a store of n bytes at a physical address: past the end of memory nothing is read or written
 unfoldable pub load : ℕ → Memory → ℕ → Answer
-load n m a = cond (holds m a n) (got (number n m a)) (bad busFault)
+load n m a = cond (holds m a n) (good (number n m a)) (raised busFault)
 
 unfoldable pub storeAnswer : ℕ → Memory → ℕ → Answer
-storeAnswer n m a = cond (holds m a n) (got 0) (bad busFault)
+storeAnswer n m a = cond (holds m a n) (good 0) (raised busFault)
 
 unfoldable pub storeMemory : ℕ → Memory → ℕ → ℕ → Memory
 storeMemory n m a v = cond (holds m a n) (stored n m a v) m
@@ -44,11 +45,11 @@ pub record Effect : Type 0 where
   pub answer : Answer
   pub memory : Memory
 
-abbrev pub done : Answer → Memory → Effect
-done a m = record { answer = a; memory = m }
+abbrev pub effect : Answer → Memory → Effect
+effect a m = record { answer = a; memory = m }
 
 unfoldable pub storeOf : ℕ → Memory → ℕ → ℕ → Effect
-storeOf n m a v = done (storeAnswer n m a) (storeMemory n m a v)
+storeOf n m a v = effect (storeAnswer n m a) (storeMemory n m a v)
 
 -- HOUSE: "Little-endian only renumbers: byte address a is at a with both low bits complemented, a half-word with bit 1
 -- complemented"
@@ -61,8 +62,8 @@ abbrev pub placeOf : Bool → Width → ℕ → ℕ
 placeOf little w a = cond little (flipped w a) a
 
 -- refusal 1, "odd board": memory not 1 to 4,096 whole pages of 4,096 bytes
-abbrev pub oddBoard : ℕ
-oddBoard = 1
+abbrev pub memorySize : ℕ
+memorySize = 1
 
 abbrev pub wholePages : ℕ → Bool
 wholePages n = eqb (n % 4096) 0 && leb 4096 n && leb n (4096 * 4096)

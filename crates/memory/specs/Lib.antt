@@ -1,2 +1,3 @@
+pub mod Exceptions
 pub mod Answers
 pub mod Bytes

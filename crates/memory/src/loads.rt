@@ -1,6 +1,7 @@
 // Loads of one, two and four bytes at a physical address.
 use crate::answers::good;
 use crate::answers::raised;
+use crate::exceptions::BUS_FAULT;
 use word::Width;
 ghost use mathlib.Core.Path.{_≡_};
 ghost use Prim.Native.Nat.{_+_, _*_};
@@ -34,7 +35,7 @@ pub fn load_byte(m: &[u8], a: u32) -> u64
     if i + 1 <= m.len() {
         good(number1(m[i]))
     } else {
-        raised(0xA)
+        raised(BUS_FAULT)
     }
 }
 
@@ -45,7 +46,7 @@ pub fn load_half(m: &[u8], a: u32) -> u64
     if i + 2 <= m.len() {
         good(number2(m[i], m[i + 1]))
     } else {
-        raised(0xA)
+        raised(BUS_FAULT)
     }
 }
 
@@ -56,7 +57,7 @@ pub fn load_word(m: &[u8], a: u32) -> u64
     if i + 4 <= m.len() {
         good(number4(m[i], m[i + 1], m[i + 2], m[i + 3]))
     } else {
-        raised(0xA)
+        raised(BUS_FAULT)
     }
 }
 

@@ -1,4 +1,4 @@
-pub mod Beside
-mod Exits
-pub mod Marks
-pub mod Shape
+pub mod BesideLaws
+mod WalkLaws
+pub mod MarkLaws
+pub mod ShapeLaws

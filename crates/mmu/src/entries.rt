@@ -1,29 +1,29 @@
 // The fields of table entries (Tables 2-1 to 2-3), and what an entry permits.
-use crate::Kind;
-use bits::bit;
-use bits::field;
-use bits::placed;
+use crate::AccessKind;
+use word::fields::bit;
+use word::fields::field;
+use word::fields::placed;
 ghost use mathlib.Core.Path.{_≡_};
 ghost use Rattle.mmu.specs.Walk.{faultOf, isWrite, segmentPlace, pagePlace, permits as permitsOf};
 
 // The exception of an access that is not permitted.
-pub fn fault_of(k: Kind) -> u32
+pub fn fault_of(k: AccessKind) -> u32
     ensures { λ r. ⌜ r ≡ faultOf k ⌝ }
 {
     match k {
-        Kind::Fetch => 0x7,
-        Kind::Read => 0x8,
-        Kind::Write => 0x9,
+        AccessKind::Fetch => 0x7,
+        AccessKind::Read => 0x8,
+        AccessKind::Write => 0x9,
     }
 }
 
-pub fn is_write(k: Kind) -> bool
+pub fn is_write(k: AccessKind) -> bool
     ensures { λ r. ⌜ r ≡ isWrite k ⌝ }
 {
     match k {
-        Kind::Fetch => false,
-        Kind::Read => false,
-        Kind::Write => true,
+        AccessKind::Fetch => false,
+        AccessKind::Read => false,
+        AccessKind::Write => true,
     }
 }
 
@@ -42,7 +42,7 @@ pub fn page_place(entry: u32, va: u32) -> u32
 }
 
 // Whether a valid entry permits an access, at user level or not.
-pub fn permits(user: bool, k: Kind, e: u32) -> bool
+pub fn permits(user: bool, k: AccessKind, e: u32) -> bool
     ensures { λ r. ⌜ r ≡ permitsOf user k e ⌝ }
 {
     (bit(e, 2) | !user) & (bit(e, 1) | !is_write(k))

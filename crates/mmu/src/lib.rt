@@ -4,7 +4,7 @@ pub mod recording;
 pub mod translation;
 
 // What an access is for.
-pub enum Kind {
+pub enum AccessKind {
     Fetch,
     Read,
     Write,

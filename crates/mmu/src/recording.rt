@@ -1,8 +1,8 @@
 // The recording bits of a page entry: Referenced, and at a write Modified.
-use crate::Kind;
+use crate::AccessKind;
 use crate::entries::is_write;
-use bits::field;
-use bits::set_bit;
+use word::fields::field;
+use word::fields::set_bit;
 ghost use mathlib.Core.Path.{_≡_};
 ghost use Prim.Native.Nat.{_+_};
 ghost use lib.ListN.{set};
@@ -10,7 +10,7 @@ ghost use Rattle.memory.specs.Bytes.{byteAt};
 ghost use Rattle.mmu.specs.Walk.{marked, fresh, recorded};
 
 // The low byte of an entry with its bits set.
-pub fn mark(k: Kind, b: u8) -> u8
+pub fn mark(k: AccessKind, b: u8) -> u8
     ensures { λ r. ⌜ r ≡ marked k b ⌝ }
 {
     if is_write(k) {
@@ -39,7 +39,7 @@ pub fn set_low_byte(m: &mut [u8], p: u32, b: u8)
 }
 
 // Whether recording an access changes a bit of the entry at p.
-pub fn is_fresh(m: &[u8], k: Kind, p: u32) -> bool
+pub fn is_fresh(m: &[u8], k: AccessKind, p: u32) -> bool
     ensures { λ r. ⌜ r ≡ fresh k p (now (m .entry)) ⌝ }
 {
     let b = low_byte(m, p);
@@ -47,7 +47,7 @@ pub fn is_fresh(m: &[u8], k: Kind, p: u32) -> bool
 }
 
 // An access through the page entry at p is recorded in it, if a bit changes.
-pub fn record_access(m: &mut [u8], k: Kind, p: u32)
+pub fn record_access(m: &mut [u8], k: AccessKind, p: u32)
     ensures { λ r. ⌜ now (m .exit) ≡ recorded k p (now (m .entry)) ⌝ }
 {
     let b = low_byte(m, p);

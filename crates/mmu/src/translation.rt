@@ -1,18 +1,19 @@
 // The walk: from a virtual address to a physical one, in two stages.
-use crate::Kind;
+use crate::AccessKind;
 use crate::Segment;
 use crate::Walk;
 use crate::entries::fault_of;
 use crate::entries::page_place;
 use crate::entries::permits;
 use crate::entries::segment_place;
-use bits::bit;
-use bits::field;
-use bits::placed;
+use memory::answers::EXCEPTION;
 use memory::answers::low32;
 use memory::loads::load_word;
+use word::fields::bit;
+use word::fields::field;
+use word::fields::placed;
 ghost use mathlib.Core.Path.{_≡_};
-ghost use Rattle.mmu.specs.declared.Kind.the-variants as kind;
+ghost use Rattle.mmu.specs.declared.AccessKind.the-variants as kind;
 ghost use Rattle.mmu.specs.Walk.{segmentOf, segment, nonpagedOf, pageOf, walk, route as routeOf};
 
 // The first stage, by the word of the segment entry.
@@ -40,7 +41,7 @@ pub fn segment_entry(m: &[u8], stb: u32, va: u32) -> Segment
     ensures { λ r. ⌜ r ≡ segment stb va (now (m .entry)) ⌝ }
 {
     let x = load_word(m, segment_place(stb, va));
-    if x < 0x1_0000_0000 {
+    if x < EXCEPTION {
         segment_of(m, va, low32(x))
     } else {
         Segment::Outside
@@ -48,7 +49,7 @@ pub fn segment_entry(m: &[u8], stb: u32, va: u32) -> Segment
 }
 
 // The second stage in a nonpaged segment.
-pub fn nonpaged(user: bool, k: Kind, va: u32, e: u32) -> Walk
+pub fn nonpaged(user: bool, k: AccessKind, va: u32, e: u32) -> Walk
     ensures { λ r. ⌜ r ≡ nonpagedOf user k va e ⌝ }
 {
     if (field(va, 12, 10) <= field(e, 12, 10)) & permits(user, k, e) {
@@ -59,7 +60,7 @@ pub fn nonpaged(user: bool, k: Kind, va: u32, e: u32) -> Walk
 }
 
 // The second stage in a page, by the word e of the page entry at p.
-pub fn page(user: bool, k: Kind, va: u32, p: u32, e: u32) -> Walk
+pub fn page(user: bool, k: AccessKind, va: u32, p: u32, e: u32) -> Walk
     ensures { λ r. ⌜ r ≡ pageOf user k va p e ⌝ }
 {
     if bit(e, 0) & permits(user, k, e) {
@@ -71,7 +72,7 @@ pub fn page(user: bool, k: Kind, va: u32, p: u32, e: u32) -> Walk
 
 // The second stage. A page entry that the first stage gives lies in memory, so its load has a value. (stb stands in
 // the contract alone.)
-fn second_stage(m: &[u8], user: bool, stb: u32, k: Kind, va: u32, s: Segment) -> Walk
+fn second_stage(m: &[u8], user: bool, stb: u32, k: AccessKind, va: u32, s: Segment) -> Walk
     requires { ⌜ s ≡ segment stb va (now m) ⌝ }
     ensures { λ r. ⌜ r ≡ walk user stb k va (now (m .entry)) ⌝ }
 {
@@ -84,7 +85,7 @@ fn second_stage(m: &[u8], user: bool, stb: u32, k: Kind, va: u32, s: Segment) ->
 }
 
 // The walk of a virtual address.
-pub fn translate(m: &[u8], user: bool, stb: u32, k: Kind, va: u32) -> Walk
+pub fn translate(m: &[u8], user: bool, stb: u32, k: AccessKind, va: u32) -> Walk
     ensures { λ r. ⌜ r ≡ walk user stb k va (now (m .entry)) ⌝ }
 {
     let s = segment_entry(m, stb, va);
@@ -97,39 +98,39 @@ pub fn translate_fetch(m: &[u8], user: bool, stb: u32, va: u32) -> Walk
     ensures { λ r. ⌜ r ≡ walk user stb kind.Fetch va (now (m .entry)) ⌝ }
 {
     let s = segment_entry(m, stb, va);
-    second_stage(m, user, stb, Kind::Fetch, va, s)
+    second_stage(m, user, stb, AccessKind::Fetch, va, s)
 }
 
 pub fn translate_read(m: &[u8], user: bool, stb: u32, va: u32) -> Walk
     ensures { λ r. ⌜ r ≡ walk user stb kind.Read va (now (m .entry)) ⌝ }
 {
     let s = segment_entry(m, stb, va);
-    second_stage(m, user, stb, Kind::Read, va, s)
+    second_stage(m, user, stb, AccessKind::Read, va, s)
 }
 
 pub fn translate_write(m: &[u8], user: bool, stb: u32, va: u32) -> Walk
     ensures { λ r. ⌜ r ≡ walk user stb kind.Write va (now (m .entry)) ⌝ }
 {
     let s = segment_entry(m, stb, va);
-    second_stage(m, user, stb, Kind::Write, va, s)
+    second_stage(m, user, stb, AccessKind::Write, va, s)
 }
 
 pub fn translate_fill(m: &[u8], user: bool, stb: u32, va: u32) -> Walk
     ensures { λ r. ⌜ r ≡ walk user stb kind.Read va (now (m .entry)) ⌝ }
 {
     let s = segment_entry(m, stb, va);
-    second_stage(m, user, stb, Kind::Read, va, s)
+    second_stage(m, user, stb, AccessKind::Read, va, s)
 }
 
 pub fn translate_flush(m: &[u8], user: bool, stb: u32, va: u32) -> Walk
     ensures { λ r. ⌜ r ≡ walk user stb kind.Write va (now (m .entry)) ⌝ }
 {
     let s = segment_entry(m, stb, va);
-    second_stage(m, user, stb, Kind::Write, va, s)
+    second_stage(m, user, stb, AccessKind::Write, va, s)
 }
 
 // Where an access goes: through the tables where addresses are virtual, else to the address itself.
-pub fn route(m: &[u8], stb: u32, user: bool, translated: bool, k: Kind, va: u32) -> Walk
+pub fn route(m: &[u8], stb: u32, user: bool, translated: bool, k: AccessKind, va: u32) -> Walk
     ensures { λ r. ⌜ r ≡ routeOf (record { stb = stb; user = user; translated = translated }) k va (now (m .entry)) ⌝ }
 {
     if translated {

@@ -1,7 +1,10 @@
-pub mod Lengths
-pub mod DyadicTables
-pub mod Dyadic
-pub mod Monadic
-pub mod Wide
-pub mod WideBack
+mod EveryLaws
+pub mod RowLaws
+pub mod ShortLaws
+pub mod LengthLaws
+pub mod DyadicTableLaws
+pub mod DyadicLaws
+pub mod MonadicLaws
+pub mod WideLaws
+pub mod WideBackLaws
 pub mod RoundTrip

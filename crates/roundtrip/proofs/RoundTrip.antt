@@ -9,7 +9,7 @@ use borrow.Author.Tests.{ltb-true, ltb-false, eqb-true, eqb-false, lt-ltb, le-lt
 use lib.ListN.{length, getD, take, length-take, List·getD-eq-default}
 use lib.Seq.{getD-take}
 use lib.Dec.{ltb, eqb}
-use Rattle.laws.proofs.Cases.{by-test}
+use Rattle.word.proofs.CaseLaws.{by-test}
 use Rattle.isa.specs.declared.Text.{Text}
 use Rattle.isa.specs.declared.ShortInstruction.{ShortInstruction}
 use Rattle.isa.specs.declared.ShortEntry.{ShortEntry}
@@ -18,17 +18,17 @@ use Rattle.isa.specs.declared.Instruction.{Instruction}
 use Rattle.isa.specs.declared.Instruction.the-variants as instruction
 use Rattle.isa.specs.declared.Wide.{Wide}
 use Rattle.isa.specs.declared.Wide.the-variants.{Three, Five}
-use Rattle.isa.specs.declared.Answer.the-variants.{Is, Illegal, Refused}
+use Rattle.isa.specs.declared.Decoded.the-variants.{Is, Illegal, Refused}
 use Rattle.isa.specs.declared.Encoded.the-variants as encoded
-use Rattle.isa.specs.Refusals.{cutText, noCode}
+use Rattle.isa.specs.Refusals.{truncatedText, noEncoding}
 use Rattle.isa.specs.Tables.{shortOf}
 use Rattle.isa.specs.Decode.{shortEntry, shortInstruction, shortAnswer, decodeShort, decodeWide, decodePrefixed, decodeBare, decodeOf, cpuPrefix, textOf}
 use Rattle.isa.specs.Encodings.{shortListed}
 use Rattle.isa.specs.Encode.{text1, text3, text5, withPrefix, shortParcel, carries, encodeShort, encodeAny, lengthOf, encodeOf, wideLength, prefixLength}
-use Rattle.roundtrip_short.proofs.Short as short
+use Rattle.roundtrip.proofs.ShortLaws as short
 use Rattle.roundtrip.specs.Unused.{unusedZero, parcelsOf, firstParcels}
-use Rattle.roundtrip.proofs.Wide.{given, dyadic-decodes, monadic-decodes}
-use Rattle.roundtrip.proofs.WideBack.{Long, three, five, wide-back}
+use Rattle.roundtrip.proofs.WideLaws.{given, dyadic-decodes, monadic-decodes}
+use Rattle.roundtrip.proofs.WideBackLaws.{Long, three, five, wide-back}
 
 -- ---- one parcel
 
@@ -37,12 +37,12 @@ short-first : (p : ℕ) (j : Instruction) → decodeOf (text1 p) ≡ Is j → (p
 unfolding decodeOf decodePrefixed decodeBare decodeWide
 short-first p j e =
     by-test (eqb p cpuPrefix)
-    (λ t. let q : Refused cutText ≡ Is j = simp t at e in let z : _≡_ {A = ℕ} 0 1 = cc in absurd (omega arith))
+    (λ t. let q : Refused truncatedText ≡ Is j = simp t at e in let z : _≡_ {A = ℕ} 0 1 = cc in absurd (omega arith))
     (λ t. by-test (ltb p 0x8000)
     (λ s. (ltb-true p 0x8000 s, simp (t, s) at e, eqb-false p cpuPrefix t))
     (λ s. by-test (ltb p 0xC000)
-    (λ u. let q : Refused cutText ≡ Is j = simp (t, s, u) at e in let z : _≡_ {A = ℕ} 0 1 = cc in absurd (omega arith))
-    (λ u. let q : Refused cutText ≡ Is j = simp (t, s, u) at e in let z : _≡_ {A = ℕ} 0 1 = cc in absurd (omega arith))))
+    (λ u. let q : Refused truncatedText ≡ Is j = simp (t, s, u) at e in let z : _≡_ {A = ℕ} 0 1 = cc in absurd (omega arith))
+    (λ u. let q : Refused truncatedText ≡ Is j = simp (t, s, u) at e in let z : _≡_ {A = ℕ} 0 1 = cc in absurd (omega arith))))
 
 short-text : (n p a b c d e : ℕ) → 1 ≤ n → p < 0x8000 → (p ≡ cpuPrefix → ⊥)
     → decodeOf (record { count = n; p0 = p; p1 = a; p2 = b; p3 = c; p4 = d; p5 = e }) ≡ decodeShort p
@@ -72,7 +72,7 @@ unfolding encodeOf
 encode-decode i n t rest e =
     by-test (eqb n (lengthOf i))
     (λ b. any-decodes i t rest (simp b at e))
-    (λ b. let q : encoded.Refused noCode ≡ encoded.Parcels t = simp b at e in let z : _≡_ {A = ℕ} 0 1 = cc in absurd (omega arith))
+    (λ b. let q : encoded.Refused noEncoding ≡ encoded.Parcels t = simp b at e in let z : _≡_ {A = ℕ} 0 1 = cc in absurd (omega arith))
 
 -- ---- parcels that decode to an instruction, with unused bits zero, encode to themselves at their length
 
@@ -156,10 +156,10 @@ pub text-encode : (t : Text) (j : Instruction) → Sixteen t → unusedZero t �
 unfolding decodeOf decodePrefixed decodeBare
 text-encode t j b u e =
     by-test (ltb (t .count) 1)
-    (λ n. let q : Refused cutText ≡ Is j = simp n at e in let z : _≡_ {A = ℕ} 0 1 = cc in absurd (omega arith))
+    (λ n. let q : Refused truncatedText ≡ Is j = simp n at e in let z : _≡_ {A = ℕ} 0 1 = cc in absurd (omega arith))
     (λ n. by-test (eqb (t .p0) cpuPrefix)
     (λ p. by-test (ltb (t .count) 2)
-    (λ m. let q : Refused cutText ≡ Is j = simp (n, p, m) at e in let z : _≡_ {A = ℕ} 0 1 = cc in absurd (omega arith))
+    (λ m. let q : Refused truncatedText ≡ Is j = simp (n, p, m) at e in let z : _≡_ {A = ℕ} 0 1 = cc in absurd (omega arith))
     (λ m. by-test (ltb (t .p1) 0x8000)
     (λ k. let q : Illegal ≡ Is j = simp (n, p, m, k) at e in let z : _≡_ {A = ℕ} 0 1 = cc in absurd (omega arith))
     (λ k.

@@ -1,8 +1,4 @@
-// Runs: steps under a budget, with their stops and refusals. No code: the type is what the code of a run answers.
-
-// Steps done, the stop and its code.
-pub struct Stopped {
-    pub steps: u32,
-    pub stop: u32,
-    pub code: u32,
-}
+// Runs of kinds 03 and 04: refusals, steps up to the stop, and the answer.
+pub mod kept_machine;
+pub mod running;
+pub mod turns;

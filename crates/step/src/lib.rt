@@ -1,1 +1,3 @@
-// One step: a look at what is due, then an event sequence or an instruction, then the timers.
+// One step: an event sequence, or fetch, instruction and, at a fault, its exception sequence (1.11).
+pub mod events;
+pub mod stepping;

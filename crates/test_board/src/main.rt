@@ -3,5 +3,5 @@
 // level with tables, stack cache, events, random parcels; then on lines of every kind, the last one without a newline.
 fn main() {
     let mut memory = [0u8; 65536];
-    serving::serve(&mut memory);
+    board_loop::serve(&mut memory);
 }

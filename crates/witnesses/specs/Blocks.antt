@@ -7,8 +7,8 @@ use lib.ListN.{replicate, getD}
 use lib.Dec.{T}
 use Rattle.isa.specs.Decode.{decodeShort, decodeWide, decodeBare, decodeOf}
 use Rattle.isa.specs.Encode.{encodeShort, encodeDyadic, encodeOf}
-use Rattle.numbering.specs.Numbering.{shortIn, dyadicIn, formIn, instructionIn}
-use Rattle.numbering.specs.Calls.{Told, decodedInto, encodedFrom}
+use Rattle.hobbit_blocks.specs.Numbering.{shortIn, dyadicIn, formIn, instructionIn}
+use Rattle.hobbit_blocks.specs.Calls.{CallAnswer, decodedInto, encodedFrom}
 use Rattle.hobbit.specs.Bytes.{storedAt, loadedFrom}
 use Rattle.witnesses.specs.Boards.{is, all}
 
@@ -19,7 +19,7 @@ block = replicate 8 7
 abbrev pub parcels : List ℕ
 parcels = replicate 6 7
 
-abbrev pub wordAt : Told → ℕ → ℕ
+abbrev pub wordAt : CallAnswer → ℕ → ℕ
 wordAt t i = getD (t .words) i 0
 
 -- four bytes of memory

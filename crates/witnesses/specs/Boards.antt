@@ -9,7 +9,7 @@ use Rattle.memory.specs.Bytes.{Memory, number}
 use Rattle.machine.specs.Registers.{Bank}
 use Rattle.machine.specs.Status.{Cpu, cpu, reg}
 use Rattle.machine.specs.Record.{zeroCache}
-use Rattle.run.specs.Run.{board, Ended, run}
+use Rattle.run_spec.specs.Run.{board, RunResult, run}
 
 -- a number that the definition gives: this one, and not the wrong one
 abbrev pub is : ℕ → ℕ → ℕ → Bool
@@ -62,18 +62,18 @@ segmented m = word 0 0x0F m
 -- ---- runs
 
 -- a run of kind 03 without interrupts, and a confined one
-abbrev pub runs : ℕ → Cpu → Memory → Ended
+abbrev pub runs : ℕ → Cpu → Memory → RunResult
 runs budget c m = run false budget 7 (board c m)
 
-abbrev pub confined : ℕ → Cpu → Memory → Ended
+abbrev pub confined : ℕ → Cpu → Memory → RunResult
 confined budget c m = run true budget 7 (board c m)
 
-abbrev pub register : Ended → ℕ → ℕ
+abbrev pub register : RunResult → ℕ → ℕ
 register e k = reg (e .left .cpu) k
 
-abbrev pub memoryWord : Ended → ℕ → ℕ
+abbrev pub memoryWord : RunResult → ℕ → ℕ
 memoryWord e a = number 4 (e .left .memory) a
 
 -- the word j of the quad-word i
-abbrev pub cacheWord : Ended → ℕ → ℕ → ℕ
+abbrev pub cacheWord : RunResult → ℕ → ℕ → ℕ
 cacheWord e i j = getD (getD (e .left .cpu .cache) i []) j 0

@@ -7,23 +7,23 @@ use lib.Dec.{T}
 use Rattle.memory.specs.Bytes.{Memory, load, storeAnswer, storeMemory}
 use Rattle.isa.specs.Decode.{decodeShort, decodeDyadic, decodeMonadic, decodeThree, decodeWide, decodeBare, decodeOf}
 use Rattle.mmu.specs.Walk.{segmentOf, segment, nonpagedOf, pageOf, walkFrom, walk, route, marked, fresh, recorded}
-use Rattle.program.specs.Access.{touch, follow, access}
-use Rattle.program.specs.Program.{interpret, after}
+use Rattle.access_spec.specs.Access.{touch, follow, access}
+use Rattle.access_spec.specs.Program.{interpret, after}
 use Rattle.machine.specs.Registers.{goodBank, config, fault, msp, psw, sp}
 use Rattle.machine.specs.Cache.{cacheRead, cacheWrite}
 use Rattle.machine.specs.Status.{Cpu, with}
-use Rattle.access.specs.Data.{readCached, readMemory, readData, writeCached, writeMemory, writeData, checkStore}
-use Rattle.access.specs.Moves.{flushWord, flushQuad, flush, fillWord, fillQuad, fill}
-use Rattle.access.specs.Parts.{onward, _>>=_, request, parcelRequest}
-use Rattle.access.specs.Text.{fetchParcel, fetchParcels, fetchAfter, fetchText}
-use Rattle.exec.specs.Operands.{located, locate, readPlace, readOperand, writePlace, checkRegisters}
-use Rattle.exec.specs.Dyadic.{move, perform, dyadic}
-use Rattle.exec.specs.Control.{released}
-use Rattle.exec.specs.Stack.{stackTarget, checkMsp, enterEmpty, enterAt, enter, catchTo, catchCurrent, catch}
-use Rattle.exec.specs.Execute.{executeMonadic, executeNormal, execute}
-use Rattle.step.specs.Timers.{counted}
-use Rattle.step.specs.Step.{fetchInstruction, act, attempt, finish, instructionStep, step}
-use Rattle.run.specs.Run.{Ended, turn, tryActed, confinedAttempt, confinedTurn, advance, refusal, run}
+use Rattle.datapath.specs.Data.{readCached, readMemory, readData, writeCached, writeMemory, writeData, checkStore}
+use Rattle.datapath.specs.Moves.{flushWord, flushQuad, flush, fillWord, fillQuad, fill}
+use Rattle.datapath.specs.Parts.{onward, _>>=_, request, parcelRequest}
+use Rattle.datapath.specs.Text.{fetchParcel, fetchParcels, fetchAfter, fetchText}
+use Rattle.exec_spec.specs.Operands.{located, locate, readPlace, readOperand, writePlace, checkRegisters}
+use Rattle.exec_spec.specs.Dyadic.{move, perform, dyadic}
+use Rattle.exec_spec.specs.Control.{released}
+use Rattle.exec_spec.specs.Stack.{stackTarget, checkMsp, enterEmpty, enterAt, enter, catchTo, catchCurrent, catch}
+use Rattle.exec_spec.specs.Execute.{executeMonadic, executeNormal, execute}
+use Rattle.step_spec.specs.Timers.{counted}
+use Rattle.step_spec.specs.Step.{fetchInstruction, act, attempt, finish, instructionStep, step}
+use Rattle.run_spec.specs.Run.{RunResult, turn, actConfined, confinedAttempt, confinedTurn, advance, refusal, run}
 use Rattle.witnesses.specs.Boards.{is, all, page, pages, word, text, kernel, user, segmented, runs, confined, register, memoryWord, cacheWord}
 
 -- the stack cache on, SP current, with an SP and an MSP
@@ -33,27 +33,27 @@ cached c p s m = with (with (with (with c config 0x4_0000) psw p) sp s) msp m
 -- ---- at kernel level without translation
 
 -- "MOV *a, *0x200", where memory holds 9 at 0x67C and at 0x680, and the cache 0
-abbrev pub movedFrom : ℕ → Ended
+abbrev pub movedFrom : ℕ → RunResult
 movedFrom a =
     runs 1 (cached kernel 0x200 0x600 0x680)
     (word 0x67C 9 (word 0x680 9 (text 0x100 (0xC6CC ∷ 0 ∷ a ∷ 0 ∷ 0x200 ∷ []) page)))
 
 -- "MOV 5, 20(SP)" at SP 0x6F0: the word at 0x704, in the quad-word 0
-abbrev pub movedTo : Ended
+abbrev pub movedTo : RunResult
 movedTo = runs 1 (cached kernel 0x200 0x6F0 0x7F0) (text 0x100 (0x70A5 ∷ []) page)
 
 -- "POPN 16"
-abbrev pub popped : Ended
+abbrev pub popped : RunResult
 popped = runs 1 (cached kernel 0x200 0x600 0x680) (text 0x100 (0x0B01 ∷ []) page)
 
 -- "CATCH 288" with the cache full
-abbrev pub caught : Ended
+abbrev pub caught : RunResult
 caught = runs 1 (cached kernel 0x200 0x600 0x700) (text 0x100 (0x0912 ∷ []) page)
 
 -- ---- confined: ENTER flushes the one quad-word that is held
 
 -- "ENTER 0x500", with the entry of the second segment
-abbrev pub flushedTo : ℕ → Ended
+abbrev pub flushedTo : ℕ → RunResult
 flushedTo e =
     confined 1 (cached user 0x1_0600 0x40_0600 0x40_0610) (word 4 e (segmented (text 0x100 (0x80F9 ∷ 0 ∷ 0x500 ∷ []) page)))
 
@@ -62,7 +62,7 @@ abbrev pub ownTable : Memory
 ownTable = word 0x1008 0x1007 (word 0x1000 0x07 (word 0 0x1001 (text 0x100 (0x80F9 ∷ 0 ∷ 0x500 ∷ []) pages)))
 
 -- a quad-word of zeros over the table's first four words
-abbrev pub flushedOnTable : Ended
+abbrev pub flushedOnTable : RunResult
 flushedOnTable = confined 1 (cached user 0x1_0600 0x2000 0x2010) ownTable
 
 unfoldable pub moves : List Bool
@@ -93,5 +93,5 @@ moves =
     ∷ []
 
 pub moves-checked : T (all moves)
-unfolding moves run refusal goodBank advance turn confinedTurn confinedAttempt tryActed step instructionStep attempt act finish fetchInstruction counted executeMonadic executeNormal execute released move perform dyadic located locate readPlace readOperand writePlace checkRegisters stackTarget checkMsp enterEmpty enterAt enter catchTo catchCurrent catch flushWord flushQuad flush fillWord fillQuad fill checkStore fetchParcel fetchParcels fetchAfter fetchText onward _>>=_ request parcelRequest readCached readMemory readData writeCached writeMemory writeData cacheRead cacheWrite interpret after touch follow access segmentOf segment nonpagedOf pageOf walkFrom walk route marked fresh recorded decodeShort decodeDyadic decodeMonadic decodeThree decodeWide decodeBare decodeOf load storeAnswer storeMemory
+unfolding moves run refusal goodBank advance turn confinedTurn confinedAttempt actConfined step instructionStep attempt act finish fetchInstruction counted executeMonadic executeNormal execute released move perform dyadic located locate readPlace readOperand writePlace checkRegisters stackTarget checkMsp enterEmpty enterAt enter catchTo catchCurrent catch flushWord flushQuad flush fillWord fillQuad fill checkStore fetchParcel fetchParcels fetchAfter fetchText onward _>>=_ request parcelRequest readCached readMemory readData writeCached writeMemory writeData cacheRead cacheWrite interpret after touch follow access segmentOf segment nonpagedOf pageOf walkFrom walk route marked fresh recorded decodeShort decodeDyadic decodeMonadic decodeThree decodeWide decodeBare decodeOf load storeAnswer storeMemory
 moves-checked = tt

@@ -14,16 +14,16 @@ use Rattle.isa.specs.declared.Operand.the-variants.{General}
 use Rattle.isa.specs.declared.Wide.the-variants.{Five}
 use Rattle.isa.specs.declared.Instruction.{Instruction}
 use Rattle.isa.specs.declared.Instruction.the-variants.{Short, Dyadic, Monadic}
-use Rattle.isa.specs.declared.Answer.{Answer}
-use Rattle.isa.specs.declared.Answer.the-variants as answer
+use Rattle.isa.specs.declared.Decoded.{Decoded}
+use Rattle.isa.specs.declared.Decoded.the-variants as answer
 use Rattle.isa.specs.declared.Encoded.{Encoded}
 use Rattle.isa.specs.declared.Encoded.the-variants as encoded
 use Rattle.isa.specs.Encodings.{dyadicListed}
 use Rattle.isa.specs.Decode.{decodeShort, decodeDyadic, decodeMonadic, decodeThree, decodeWide, decodePrefixed, decodeBare, decodeOf, textOf}
 use Rattle.isa.specs.Encode.{modeCode, encodeShort, encodeDyadic, encodeMonadic, encodeOf}
-use Rattle.plans.specs.declared.Plan.{Plan}
-use Rattle.plans.specs.declared.Plan.the-variants as plan
-use Rattle.plans.specs.Plans.{planOf}
+use Rattle.fast_decode.specs.declared.Plan.{Plan}
+use Rattle.fast_decode.specs.declared.Plan.the-variants as plan
+use Rattle.fast_decode.specs.Plans.{planOf}
 use Rattle.witnesses.specs.Boards.{is, all}
 
 -- ---- an answer as a number
@@ -35,7 +35,7 @@ abbrev pub illegal : ℕ
 illegal = 0x3
 
 -- the refusal's number, 3 for illegal, 0x21 and 0x22 for the unimplemented and the trapped, 0 for an instruction
-abbrev pub answerNumber : Answer → ℕ
+abbrev pub answerNumber : Decoded → ℕ
 answerNumber (answer.Is i) = instructionFound
 answerNumber answer.Illegal = illegal
 answerNumber answer.Unimplemented = 0x21
@@ -43,7 +43,7 @@ answerNumber answer.Trap = 0x22
 answerNumber (answer.Refused n) = n
 
 -- the opcode of a dyadic's row by the encodings lists; 0x40 for any other answer
-abbrev pub opcodeIn : Answer → ℕ
+abbrev pub opcodeIn : Decoded → ℕ
 opcodeIn (answer.Is (Short i)) = 0x40
 opcodeIn (answer.Is (Dyadic i)) = dyadicListed (i .row) .opcode
 opcodeIn (answer.Is (Monadic i)) = 0x40
@@ -53,7 +53,7 @@ opcodeIn answer.Trap = 0x40
 opcodeIn (answer.Refused n) = 0x40
 
 -- the source of a one-parcel instruction; 0 for any other answer
-abbrev pub sourceIn : Answer → ℕ
+abbrev pub sourceIn : Decoded → ℕ
 sourceIn (answer.Is (Short i)) = i .source
 sourceIn (answer.Is (Dyadic i)) = 0
 sourceIn (answer.Is (Monadic i)) = 0
@@ -62,7 +62,7 @@ sourceIn answer.Unimplemented = 0
 sourceIn answer.Trap = 0
 sourceIn (answer.Refused n) = 0
 
-abbrev pub decoded : List ℕ → Answer
+abbrev pub decoded : List ℕ → Decoded
 decoded ps = decodeOf (textOf ps)
 
 -- the mode of a plan's source; 0x10 where there is none

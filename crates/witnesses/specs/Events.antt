@@ -8,21 +8,21 @@ use lib.Dec.{T}
 use Rattle.memory.specs.Bytes.{Memory, load, storeAnswer, storeMemory}
 use Rattle.isa.specs.Decode.{decodeShort, decodeBare, decodeOf}
 use Rattle.mmu.specs.Walk.{segmentOf, segment, nonpagedOf, walkFrom, walk, route}
-use Rattle.program.specs.Access.{touch, follow, access}
-use Rattle.program.specs.Program.{interpret, after}
+use Rattle.access_spec.specs.Access.{touch, follow, access}
+use Rattle.access_spec.specs.Program.{interpret, after}
 use Rattle.machine.specs.Registers.{goodBank, config, fault, isp, msp, pc, psw, shad, sp, timer2, vb, traceDue, timer1Due, timer2Due, nmiTaken}
 use Rattle.machine.specs.Status.{Cpu, with}
-use Rattle.access.specs.Data.{readFrame, writeFrame}
-use Rattle.access.specs.Moves.{fillWord, fillQuad, fill}
-use Rattle.access.specs.Parts.{onward, _>>=_, request, parcelRequest, frameRequest}
-use Rattle.access.specs.Text.{fetchParcel, fetchParcels, fetchAfter, fetchText}
-use Rattle.exec.specs.Stack.{checkMsp, catchTo}
-use Rattle.exec.specs.Frames.{pushPair, pushFrame, throughVector, interruptSequence, exceptionSequence, privileged, kret, cretFill, cret, reset, cretAfter, cretCaught, cretFrom}
-use Rattle.exec.specs.Execute.{executeNiladic, executeNormal, execute}
-use Rattle.step.specs.Events.{take}
-use Rattle.step.specs.Timers.{counted}
-use Rattle.step.specs.Step.{fetchInstruction, act, attempt, eventStep, exceptionStep, finish, instructionStep, step}
-use Rattle.run.specs.Run.{board, Ended, turn, tryActed, confinedAttempt, confinedTurn, advance, refusal, run}
+use Rattle.datapath.specs.Data.{readFrame, writeFrame}
+use Rattle.datapath.specs.Moves.{fillWord, fillQuad, fill}
+use Rattle.datapath.specs.Parts.{onward, _>>=_, request, parcelRequest, frameRequest}
+use Rattle.datapath.specs.Text.{fetchParcel, fetchParcels, fetchAfter, fetchText}
+use Rattle.exec_spec.specs.Stack.{checkMsp, catchTo}
+use Rattle.exec_spec.specs.Frames.{pushPair, pushFrame, throughVector, interruptSequence, exceptionSequence, privileged, kret, cretFill, cret, reset, cretAfter, cretCaught, cretFrom}
+use Rattle.exec_spec.specs.Execute.{executeNiladic, executeNormal, execute}
+use Rattle.step_spec.specs.Events.{take}
+use Rattle.step_spec.specs.Timers.{counted}
+use Rattle.step_spec.specs.Step.{fetchInstruction, act, attempt, eventStep, exceptionStep, finish, instructionStep, step}
+use Rattle.run_spec.specs.Run.{board, RunResult, turn, actConfined, confinedAttempt, confinedTurn, advance, refusal, run}
 use Rattle.witnesses.specs.Boards.{is, all, page, word, text, kernel, user, segmented, runs, confined, register, memoryWord, cacheWord}
 
 -- ---- events at kernel level: the vector at VB + 4 * i is 0x300 + 16 * i, for those that are used; NOP at 0x340
@@ -33,7 +33,7 @@ vectors =
     (text 0x340 (0x2C02 ∷ []) page))))))
 
 -- steps at an interrupt level, with all levels admitted
-abbrev pub taking : ℕ → ℕ → Cpu → Ended
+abbrev pub taking : ℕ → ℕ → Cpu → RunResult
 taking budget level c = run false budget level (board (with c psw 0x7000) vectors)
 
 -- a confined step at an interrupt level, with all levels admitted: what it reports
@@ -79,14 +79,14 @@ interrupts =
     ∷ []
 
 -- level 0 while Timer2 counts completed instructions
-abbrev pub interrupted : Ended
+abbrev pub interrupted : RunResult
 interrupted = run false 1 0 (board (with kernel config 0x0200_0000) page)
 
 -- level 0 with the interrupt stack past memory, and everything due
 abbrev pub resetting : Cpu
 resetting = with (with (with (with (with kernel psw 0x7000) isp 0x8000) shad 0x8000) config 0x4_0000) fault 7
 
-abbrev pub resetBy : Ended
+abbrev pub resetBy : RunResult
 resetBy = run false 1 0 (board (with (timersDue resetting) traceDue 1) page)
 
 unfoldable pub resets : List Bool
@@ -118,16 +118,16 @@ abbrev pub framed : ℕ → ℕ → ℕ → Memory → Memory
 framed s m p t = word 0x800 s (word 0x804 m (word 0x808 0x305 (word 0x80C p t)))
 
 -- "KRET" to a PSW with all bits set
-abbrev pub kernelReturned : Ended
+abbrev pub kernelReturned : RunResult
 kernelReturned = runs 1 kernel (framed 0x640 0x660 0xFFFF_FFFF (text 0x100 (0x2C01 ∷ []) page))
 
 -- "CRET" with the stack cache on, to SP 0x640 and MSP 0x660 at kernel level; 0x654 holds 9
-abbrev pub contextReturned : Ended
+abbrev pub contextReturned : RunResult
 contextReturned =
     runs 1 (with kernel config 0x4_0000) (framed 0x64F 0x66F 0x200 (word 0x654 9 (text 0x100 (0x2C05 ∷ []) page)))
 
 -- "CRET" from physical addresses to a user's stack in the second segment, which leads to the same page, for the kernel alone
-abbrev pub contextFilled : Ended
+abbrev pub contextFilled : RunResult
 contextFilled =
     runs 1 (with kernel config 0x4_0000)
     (word 4 0x0B (segmented (framed 0x40_0640 0x40_0660 0x1_0600 (text 0x100 (0x2C05 ∷ []) page))))
@@ -171,5 +171,5 @@ unfolding resets run refusal goodBank advance turn step eventStep take interrupt
 resets-checked = tt
 
 pub returns-checked : T (all returns)
-unfolding returns run refusal goodBank advance turn confinedTurn confinedAttempt tryActed step instructionStep attempt act finish exceptionStep fetchInstruction counted executeNiladic executeNormal execute privileged kret cretFill cret catchTo checkMsp fillWord fillQuad fill exceptionSequence pushFrame pushPair throughVector fetchParcel fetchParcels fetchAfter fetchText onward _>>=_ request parcelRequest frameRequest readFrame writeFrame interpret after touch follow access segmentOf segment nonpagedOf walkFrom walk route decodeShort decodeBare decodeOf load storeAnswer storeMemory cretAfter cretFrom cretCaught
+unfolding returns run refusal goodBank advance turn confinedTurn confinedAttempt actConfined step instructionStep attempt act finish exceptionStep fetchInstruction counted executeNiladic executeNormal execute privileged kret cretFill cret catchTo checkMsp fillWord fillQuad fill exceptionSequence pushFrame pushPair throughVector fetchParcel fetchParcels fetchAfter fetchText onward _>>=_ request parcelRequest frameRequest readFrame writeFrame interpret after touch follow access segmentOf segment nonpagedOf walkFrom walk route decodeShort decodeBare decodeOf load storeAnswer storeMemory cretAfter cretFrom cretCaught
 returns-checked = tt

@@ -7,14 +7,14 @@ use mathlib.Core.List.{List, [], _∷_, _++_}
 use lib.ListN.{length, set, take}
 use lib.Dec.{T}
 use Rattle.machine.specs.Registers.{goodBank, setRegister}
-use Rattle.run.specs.Run.{advance, refusal, run}
-use Rattle.lines.specs.Digits.{digitOf, number, digit, digits}
-use Rattle.lines.specs.Lines.{numbersOf, frameOf}
-use Rattle.lines.specs.Stores.{storeOf}
-use Rattle.lines.specs.Answers.{newline, refusedLine, ranLine}
-use Rattle.conversation.specs.Conversation.{answerOf, conversation, linesOf, boardProgram}
-use Rattle.conversation.specs.Blocks.{newlineAt, endedLines, together, sizeOf, lastOf}
-use Rattle.conversation.specs.Stream.{exchangeLines, exchangeRest}
+use Rattle.run_spec.specs.Run.{advance, refusal, run}
+use Rattle.board_lines.specs.Digits.{digitOf, numberAt, digitByte, digits}
+use Rattle.board_lines.specs.Lines.{numbersOf, frameOf}
+use Rattle.board_lines.specs.Stores.{frameStore}
+use Rattle.board_lines.specs.Answers.{newline, refusedLine, ranLine}
+use Rattle.board_conversation.specs.Conversation.{frameAnswer, conversation, linesOf, boardProgram}
+use Rattle.board_conversation.specs.Blocks.{newlineAt, endedLines, together, sizeOf, lastOf}
+use Rattle.board_conversation.specs.Loop.{exchangeLines, exchangeRest}
 use Rattle.witnesses.specs.Boards.{is, all, page}
 
 -- ---- frames: a kind's number, or 7 for a bad line
@@ -48,8 +48,8 @@ frames =
     -- a word read with its second byte in the place of the third
     ∷ is (numbersOf (frameOf (digits 12 0x0106_1234_5678)) .second) 0x1234_5678 0x1234_3478
     -- frame 02 taken if its first byte is on the board: two bytes at 0xFFF
-    ∷ is (storeOf (digits 14 0x02_0000_0FFF_0102) page 0xFFF .refusal) 8 0
-    ∷ is (storeOf (digits 12 0x0200_000F_FF01) page 0xFFF .refusal) 0 8
+    ∷ is (frameStore (digits 14 0x02_0000_0FFF_0102) page 0xFFF .refusal) 8 0
+    ∷ is (frameStore (digits 12 0x0200_000F_FF01) page 0xFFF .refusal) 0 8
     ∷ []
 
 -- ---- printed lines, as numbers of their digits
@@ -57,11 +57,11 @@ frames =
 unfoldable pub answers : List Bool
 answers =
     -- an 82 line with the line in the place of the refusal, or its number one digit off
-    is (number 12 (refusedLine 2 0x1234_5678) 0) 0x8202_1234_5678 0x8278_1234_5678
-    ∷ is (number 12 (refusedLine 2 0x1234_5678) 0) 0x8202_1234_5678 0x8202_0123_4567
+    is (numberAt 12 (refusedLine 2 0x1234_5678) 0) 0x8202_1234_5678 0x8278_1234_5678
+    ∷ is (numberAt 12 (refusedLine 2 0x1234_5678) 0) 0x8202_1234_5678 0x8202_0123_4567
     -- an 83 line with the stop in the place of its code, or PC in the place of PSW
-    ∷ is (number 30 (ranLine 3 2 0x17 0x100 0x1_0400) 0) 0x83_0000_0003_0217_0000_0100_0001_0400 0x83_0000_0003_0202_0000_0100_0001_0400
-    ∷ is (number 30 (ranLine 3 2 0x17 0x100 0x1_0400) 0) 0x83_0000_0003_0217_0000_0100_0001_0400 0x83_0000_0003_0217_0000_0100_0000_0100
+    ∷ is (numberAt 30 (ranLine 3 2 0x17 0x100 0x1_0400) 0) 0x83_0000_0003_0217_0000_0100_0001_0400 0x83_0000_0003_0202_0000_0100_0001_0400
+    ∷ is (numberAt 30 (ranLine 3 2 0x17 0x100 0x1_0400) 0) 0x83_0000_0003_0217_0000_0100_0001_0400 0x83_0000_0003_0217_0000_0100_0000_0100
     ∷ []
 
 -- ---- conversations
@@ -73,12 +73,12 @@ line x = digits 12 x ++ (newline ∷ [])
 unfoldable pub conversations : List Bool
 conversations =
     -- lines numbered from 0, or an empty line passed over
-    is (number 12 (boardProgram (newline ∷ [])) 0) 0x8207_0000_0001 0x8207_0000_0000
+    is (numberAt 12 (boardProgram (newline ∷ [])) 0) 0x8207_0000_0001 0x8207_0000_0000
     -- a refusal that prints nothing, or a register set that prints something
     ∷ is (length (boardProgram (line 0x0109_0000_1008))) 13 0
     ∷ is (length (boardProgram (line 0x0109_0000_1010))) 0 13
     -- kind 04 run as kind 03: at kernel level it is refused with 9
-    ∷ is (number 30 (boardProgram (line 0x0400_0000_0107)) 0) 0x83_0000_0000_0109_0000_0000_0000_0000 0x83_0000_0001_0000_0000_0000_0000_0000
+    ∷ is (numberAt 30 (boardProgram (line 0x0400_0000_0107)) 0) 0x83_0000_0000_0109_0000_0000_0000_0000 0x83_0000_0001_0000_0000_0000_0000_0000
     -- a last line without a newline passed over
     ∷ is (length (boardProgram (digits 12 0x0300_0000_0007))) 31 0
     ∷ []
@@ -115,21 +115,21 @@ exchanges =
 -- document 01, "Whole case"
 pub whole-case : boardProgram (line 0x0106_0000_0100 ++ line 0x0109_0000_1008 ++ line 0x0300_0000_0007)
     ≡ line 0x8202_0000_0002 ++ (digits 30 0x83_0000_0000_0000_0000_0100_0000_0000 ++ (newline ∷ []))
-unfolding frameOf digitOf digit setRegister answerOf conversation linesOf run refusal goodBank advance
+unfolding frameOf digitOf digitByte setRegister frameAnswer conversation linesOf run refusal goodBank advance
 whole-case = refl
 
 pub frames-checked : T (all frames)
-unfolding frames frameOf digitOf digit storeOf
+unfolding frames frameOf digitOf digitByte frameStore
 frames-checked = tt
 
 pub answers-checked : T (all answers)
-unfolding answers digitOf digit
+unfolding answers digitOf digitByte
 answers-checked = tt
 
 pub conversations-checked : T (all conversations)
-unfolding conversations frameOf digitOf digit setRegister answerOf conversation linesOf run refusal goodBank advance
+unfolding conversations frameOf digitOf digitByte setRegister frameAnswer conversation linesOf run refusal goodBank advance
 conversations-checked = tt
 
 pub exchanges-checked : T (all exchanges)
-unfolding exchanges frameOf digitOf digit newlineAt endedLines together sizeOf lastOf
+unfolding exchanges frameOf digitOf digitByte newlineAt endedLines together sizeOf lastOf
 exchanges-checked = tt

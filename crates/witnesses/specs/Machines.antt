@@ -5,13 +5,13 @@ use mathlib.Core.Bool.{Bool, true, false, not}
 use mathlib.Core.List.{List, [], _∷_}
 use lib.Dec.{T}
 use Rattle.word.specs.declared.Width.the-variants.{Byte, Half, Word}
-use Rattle.memory.specs.Answers.{Answer, got, bad}
+use Rattle.memory.specs.Answers.{Answer, good, raised}
 use Rattle.memory.specs.Bytes.{number, load, storeAnswer, storeMemory, placeOf, wholePages, byteAt}
-use Rattle.mmu.specs.declared.Kind.the-variants.{Fetch, Read, Write}
+use Rattle.mmu.specs.declared.AccessKind.the-variants.{Fetch, Read, Write}
 use Rattle.mmu.specs.declared.Walk.{Walk}
 use Rattle.mmu.specs.declared.Walk.the-variants.{Fault, Direct, Paged}
 use Rattle.mmu.specs.Walk.{segmentOf, segment, nonpagedOf, pageOf, walkFrom, walk, marked, fresh, recorded}
-use Rattle.machine.specs.Registers.{setRegister, startBank, kept, config, psw, msp}
+use Rattle.machine.specs.Registers.{setRegister, startBank, unreserved, config, psw, msp}
 use Rattle.machine.specs.Registers as registers
 use Rattle.machine.specs.Record.{readingOf}
 use Rattle.witnesses.specs.Boards.{is, all, page, word}
@@ -49,7 +49,7 @@ settings =
     ∷ is (registers.word stacked msp) 0x600 0
     -- PSW with the reserved bit 3 taken, and kept by a register write
     ∷ is (setRegister stacked 7 8 .refusal) 2 0
-    ∷ is (kept psw 0x1_FFFF) 0x1_FFF0 0x1_FFF8
+    ∷ is (unreserved psw 0x1_FFFF) 0x1_FFF0 0x1_FFF8
     -- ID written
     ∷ is (registers.word (setRegister stacked 3 7 .bank) registers.id) 0x3B 7
     -- another register set than the one named
@@ -65,8 +65,8 @@ settings =
 
 -- a value, or 256 and the exception
 abbrev pub answerNumber : Answer → ℕ
-answerNumber (got v) = v
-answerNumber (bad e) = 256 + e
+answerNumber (good v) = v
+answerNumber (raised e) = 256 + e
 
 unfoldable pub memories : List Bool
 memories =

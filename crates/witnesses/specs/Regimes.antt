@@ -8,21 +8,21 @@ use lib.Dec.{T}
 use Rattle.memory.specs.Bytes.{Memory, load, storeAnswer, storeMemory}
 use Rattle.isa.specs.Decode.{decodeDyadic, decodeMonadic, decodeThree, decodeWide, decodeBare, decodeOf}
 use Rattle.mmu.specs.Walk.{segmentOf, segment, nonpagedOf, pageOf, walkFrom, walk, route, marked, fresh, recorded}
-use Rattle.program.specs.Access.{touch, follow, access}
-use Rattle.program.specs.Program.{interpret, after}
+use Rattle.access_spec.specs.Access.{touch, follow, access}
+use Rattle.access_spec.specs.Program.{interpret, after}
 use Rattle.machine.specs.Registers.{goodBank, config, isp, pc, psw, vb}
 use Rattle.machine.specs.Status.{Cpu, with}
-use Rattle.access.specs.Data.{readMemory, readData, writeMemory, writeData, readFrame, writeFrame}
-use Rattle.access.specs.Parts.{onward, _>>=_, request, parcelRequest, frameRequest}
-use Rattle.access.specs.Text.{fetchParcel, fetchParcels, fetchAfter, fetchText}
-use Rattle.exec.specs.Operands.{located, locate, readPlace, readOperand, writePlace, checkRegisters}
-use Rattle.exec.specs.Dyadic.{move, perform, dyadic}
-use Rattle.exec.specs.Control.{readWord32, jump, readThrough}
-use Rattle.exec.specs.Frames.{pushPair, pushFrame, throughVector, kcall, exceptionSequence, reset}
-use Rattle.exec.specs.Execute.{executeMonadic, executeNormal, execute}
-use Rattle.step.specs.Timers.{counted}
-use Rattle.step.specs.Step.{fetchInstruction, act, attempt, exceptionStep, finish, instructionStep, step}
-use Rattle.run.specs.Run.{Ended, turn, tryActed, confinedAttempt, confinedTurn, advance, refusal, run}
+use Rattle.datapath.specs.Data.{readMemory, readData, writeMemory, writeData, readFrame, writeFrame}
+use Rattle.datapath.specs.Parts.{onward, _>>=_, request, parcelRequest, frameRequest}
+use Rattle.datapath.specs.Text.{fetchParcel, fetchParcels, fetchAfter, fetchText}
+use Rattle.exec_spec.specs.Operands.{located, locate, readPlace, readOperand, writePlace, checkRegisters}
+use Rattle.exec_spec.specs.Dyadic.{move, perform, dyadic}
+use Rattle.exec_spec.specs.Control.{readWord32, jump, readThrough}
+use Rattle.exec_spec.specs.Frames.{pushPair, pushFrame, throughVector, kcall, exceptionSequence, reset}
+use Rattle.exec_spec.specs.Execute.{executeMonadic, executeNormal, execute}
+use Rattle.step_spec.specs.Timers.{counted}
+use Rattle.step_spec.specs.Step.{fetchInstruction, act, attempt, exceptionStep, finish, instructionStep, step}
+use Rattle.run_spec.specs.Run.{RunResult, turn, actConfined, confinedAttempt, confinedTurn, advance, refusal, run}
 use Rattle.witnesses.specs.Boards.{is, all, page, pages, word, text, kernel, user, segmented, runs, confined, register, memoryWord}
 
 -- ---- level and translation: both segments lead to the one page there is, the second, from 0x400000 on, by the entry e
@@ -54,11 +54,11 @@ abbrev pub virtual : Cpu
 virtual = with kernel psw 0x1_0000
 
 -- the number of the exception that was taken, in its frame
-abbrev pub exceptionIn : Ended → ℕ
+abbrev pub exceptionIn : RunResult → ℕ
 exceptionIn e = memoryWord e 0x7F4
 
 -- "KCALL 7" at user level, with the interrupt stack and the vectors in the second segment
-abbrev pub kernelCalled : Ended
+abbrev pub kernelCalled : RunResult
 kernelCalled =
     runs 1 (with (with user isp 0x40_0800) vb 0x40_0400)
     (word 0x400 0x300 (word 4 kernels (segmented (text 0x100 (0x80F0 ∷ 0 ∷ 7 ∷ []) page))))
@@ -96,10 +96,10 @@ abbrev pub byteStored : Memory
 byteStored = segmented (text 0x100 (0xC6F0 ∷ 0 ∷ 5 ∷ 0 ∷ 0x201 ∷ []) page)
 
 -- "MOV 0x01020304, *0x200", and "JMP *0x200" through that word, in little-endian order at kernel level
-abbrev pub wordStored : Ended
+abbrev pub wordStored : RunResult
 wordStored = runs 1 (with kernel config 0x1_0000) (text 0x100 (0xC6FC ∷ 0x0102 ∷ 0x0304 ∷ 0 ∷ 0x200 ∷ []) page)
 
-abbrev pub wordLoaded : Ended
+abbrev pub wordLoaded : RunResult
 wordLoaded = runs 1 (with kernel config 0x1_0000) (word 0x200 0x0102_0304 (text 0x100 (0x80C3 ∷ 0 ∷ 0x200 ∷ []) page))
 
 abbrev pub inOrder : ℕ
@@ -123,7 +123,7 @@ orders =
 -- ---- recording
 
 -- "MOV *0x1200, *0x300", where virtual pages 0 and 1 lead to page 0 and their entries are at 0x1000 and 0x1004
-abbrev pub recording : Ended
+abbrev pub recording : RunResult
 recording =
     confined 1 user
     (word 0x1004 0x07 (word 0x1000 0x07 (word 0 0x1001 (text 0x100 (0xC6CC ∷ 0 ∷ 0x1200 ∷ 0 ∷ 0x300 ∷ []) pages))))
@@ -139,13 +139,13 @@ recordings =
     ∷ []
 
 pub regimes-checked : T (all regimes)
-unfolding regimes run refusal goodBank advance turn confinedTurn confinedAttempt tryActed step instructionStep attempt act finish exceptionStep fetchInstruction counted executeMonadic executeNormal execute kcall pushFrame pushPair throughVector exceptionSequence reset move perform dyadic located locate readPlace readOperand writePlace checkRegisters readWord32 fetchParcel fetchParcels fetchAfter fetchText onward _>>=_ request parcelRequest frameRequest readMemory readData writeMemory writeData readFrame writeFrame interpret after touch follow access segmentOf segment nonpagedOf walkFrom walk route decodeDyadic decodeMonadic decodeThree decodeWide decodeBare decodeOf load storeAnswer storeMemory readThrough
+unfolding regimes run refusal goodBank advance turn confinedTurn confinedAttempt actConfined step instructionStep attempt act finish exceptionStep fetchInstruction counted executeMonadic executeNormal execute kcall pushFrame pushPair throughVector exceptionSequence reset move perform dyadic located locate readPlace readOperand writePlace checkRegisters readWord32 fetchParcel fetchParcels fetchAfter fetchText onward _>>=_ request parcelRequest frameRequest readMemory readData writeMemory writeData readFrame writeFrame interpret after touch follow access segmentOf segment nonpagedOf walkFrom walk route decodeDyadic decodeMonadic decodeThree decodeWide decodeBare decodeOf load storeAnswer storeMemory readThrough
 regimes-checked = tt
 
 pub orders-checked : T (all orders)
-unfolding orders run refusal goodBank advance turn confinedTurn confinedAttempt tryActed step instructionStep attempt act finish fetchInstruction counted executeMonadic executeNormal execute jump readWord32 readMemory readData move perform dyadic located locate readPlace readOperand writePlace checkRegisters fetchParcel fetchParcels fetchAfter fetchText onward _>>=_ request parcelRequest writeMemory writeData interpret after touch follow access segmentOf segment nonpagedOf walkFrom walk route decodeDyadic decodeMonadic decodeThree decodeWide decodeBare decodeOf load storeAnswer storeMemory readThrough
+unfolding orders run refusal goodBank advance turn confinedTurn confinedAttempt actConfined step instructionStep attempt act finish fetchInstruction counted executeMonadic executeNormal execute jump readWord32 readMemory readData move perform dyadic located locate readPlace readOperand writePlace checkRegisters fetchParcel fetchParcels fetchAfter fetchText onward _>>=_ request parcelRequest writeMemory writeData interpret after touch follow access segmentOf segment nonpagedOf walkFrom walk route decodeDyadic decodeMonadic decodeThree decodeWide decodeBare decodeOf load storeAnswer storeMemory readThrough
 orders-checked = tt
 
 pub recordings-checked : T (all recordings)
-unfolding recordings run refusal goodBank advance confinedTurn confinedAttempt tryActed fetchInstruction counted executeNormal execute move perform dyadic located locate readPlace readOperand writePlace checkRegisters fetchParcel fetchParcels fetchAfter fetchText onward _>>=_ request parcelRequest readMemory readData writeMemory writeData interpret after touch follow access segmentOf segment pageOf walkFrom walk route marked fresh recorded decodeDyadic decodeWide decodeBare decodeOf load storeAnswer storeMemory
+unfolding recordings run refusal goodBank advance confinedTurn confinedAttempt actConfined fetchInstruction counted executeNormal execute move perform dyadic located locate readPlace readOperand writePlace checkRegisters fetchParcel fetchParcels fetchAfter fetchText onward _>>=_ request parcelRequest readMemory readData writeMemory writeData interpret after touch follow access segmentOf segment pageOf walkFrom walk route marked fresh recorded decodeDyadic decodeWide decodeBare decodeOf load storeAnswer storeMemory
 recordings-checked = tt

@@ -9,24 +9,24 @@ use Rattle.word.specs.Sums.{addOf}
 use Rattle.memory.specs.Bytes.{Memory, load, storeAnswer, storeMemory}
 use Rattle.isa.specs.Decode.{decodeShort, decodeDyadic, decodeMonadic, decodeThree, decodeWide, decodePrefixed, decodeBare, decodeOf}
 use Rattle.mmu.specs.Walk.{segmentOf, segment, nonpagedOf, pageOf, walkFrom, walk, route, marked, fresh, recorded}
-use Rattle.program.specs.Access.{touch, follow, access}
-use Rattle.program.specs.Program.{interpret, after}
+use Rattle.access_spec.specs.Access.{touch, follow, access}
+use Rattle.access_spec.specs.Program.{interpret, after}
 use Rattle.machine.specs.Registers.{goodBank, config, fault, msp, pc, psw, sp, timer2, traceDue, timer2Due, nmiTaken}
 use Rattle.machine.specs.Status.{Cpu, reg, with}
-use Rattle.access.specs.Data.{readMemory, readData, writeMemory, writeData, readFrame, writeFrame, checkStore}
-use Rattle.access.specs.Moves.{flush}
-use Rattle.access.specs.Parts.{onward, _>>=_, request, parcelRequest, frameRequest}
-use Rattle.access.specs.Text.{fetchParcel, fetchParcels, fetchAfter, fetchPrefixed, fetchText}
-use Rattle.exec.specs.Operands.{located, locate, readPlace, readOperand, writeRegister, writePlace, writeAccumulator, checkRegisters}
-use Rattle.exec.specs.Dyadic.{interlock, move, perform, dyadic}
-use Rattle.exec.specs.Control.{readWord32, readThrough}
-use Rattle.exec.specs.Frames.{pushPair, pushFrame, throughVector, kcall}
-use Rattle.exec.specs.Stack.{stackTarget, checkMsp, enterOffset, enterAt, enter, enterClipped}
-use Rattle.exec.specs.Execute.{executeMonadic, executeNormal, execute}
-use Rattle.step.specs.Timers.{counted}
-use Rattle.step.specs.Step.{fetchInstruction, act, attempt, finish, instructionStep, step}
-use Rattle.run.specs.Run.{Board, board, Ended, turn, tryActed, confinedAttempt, confinedTurn, advance, refusal, run}
-use Rattle.isolation.specs.Course.{course, passed as passedOf}
+use Rattle.datapath.specs.Data.{readMemory, readData, writeMemory, writeData, readFrame, writeFrame, checkStore}
+use Rattle.datapath.specs.Moves.{flush}
+use Rattle.datapath.specs.Parts.{onward, _>>=_, request, parcelRequest, frameRequest}
+use Rattle.datapath.specs.Text.{fetchParcel, fetchParcels, fetchAfter, fetchPrefixed, fetchText}
+use Rattle.exec_spec.specs.Operands.{located, locate, readPlace, readOperand, writeRegister, writePlace, writeAccumulator, checkRegisters}
+use Rattle.exec_spec.specs.Dyadic.{interlock, move, perform, dyadic}
+use Rattle.exec_spec.specs.Control.{readWord32, readThrough}
+use Rattle.exec_spec.specs.Frames.{pushPair, pushFrame, throughVector, kcall}
+use Rattle.exec_spec.specs.Stack.{stackTarget, checkMsp, enterOffset, enterAt, enter, enterClipped}
+use Rattle.exec_spec.specs.Execute.{executeMonadic, executeNormal, execute}
+use Rattle.step_spec.specs.Timers.{counted}
+use Rattle.step_spec.specs.Step.{fetchInstruction, act, attempt, finish, instructionStep, step}
+use Rattle.run_spec.specs.Run.{Board, board, RunResult, turn, actConfined, confinedAttempt, confinedTurn, advance, refusal, run}
+use Rattle.isolation.specs.Execution.{execution, passed as passedOf}
 use Rattle.witnesses.specs.Boards.{is, all, page, pages, word, text, kernel, user, segmented, runs, confined, register, memoryWord}
 
 -- ---- refusals: memory of a byte less than a page, a reserved bit of PSW, level 8, kernel level
@@ -71,20 +71,20 @@ abbrev pub moving : Memory
 moving = text 0x100 (0x70A4 ∷ 0x70C5 ∷ 0x70E6 ∷ []) page
 
 -- "MOV 5, 16(CSP)", then "CPU MOV 0x710, MSP", which loses the stack; and the latter alone
-abbrev pub losing : Ended
+abbrev pub losing : RunResult
 losing = runs 3 kernel (text 0x100 (0x70A4 ∷ 0x2C00 ∷ 0xC6F7 ∷ 0 ∷ 0x710 ∷ 0 ∷ 1 ∷ []) page)
 
 abbrev pub losingFirst : Memory
 losingFirst = text 0x100 (0x2C00 ∷ 0xC6F7 ∷ 0 ∷ 0x710 ∷ 0 ∷ 1 ∷ []) page
 
 -- "ENTER -32(SP)" at SP and MSP 0x10: the new SP is above MSP
-abbrev pub wrapping : Ended
+abbrev pub wrapping : RunResult
 wrapping =
     runs 1 (with (with (with (with kernel config 0x4_0000) psw 0x200) sp 0x10) msp 0x10)
     (text 0x100 (0x80D9 ∷ 0xFFFF ∷ 0xFFE0 ∷ []) page)
 
 -- "CPU MOV 0x04000000, CONFIG": Timer2 then counts an event that is not in Table 1-2
-abbrev pub configured : Ended
+abbrev pub configured : RunResult
 configured = runs 1 kernel (text 0x100 (0x2C00 ∷ 0xC6F7 ∷ 0x400 ∷ 0 ∷ 0 ∷ 4 ∷ []) page)
 
 unfoldable pub steps : List Bool
@@ -123,31 +123,31 @@ abbrev pub trying : List ℕ → Memory → Memory
 trying ps m = word 0x40C 0x300 (segmented (text 0x100 ps m))
 
 -- "MOV *0x5000, *0x200"
-abbrev pub unread : Ended
+abbrev pub unread : RunResult
 unread = confined 1 user (trying (0xC6CC ∷ 0 ∷ 0x5000 ∷ 0 ∷ 0x200 ∷ []) page)
 
 -- "ADDI 3, *0x200", which holds 7, with the accumulator at 0x1004
-abbrev pub halfDone : Ended
+abbrev pub halfDone : RunResult
 halfDone = confined 1 (with (with user sp 0x1000) msp 0x1000) (word 0x200 7 (trying (0xC3FC ∷ 0 ∷ 3 ∷ 0 ∷ 0x200 ∷ []) page))
 
 -- "KCALL *0x5000"
-abbrev pub asking : Ended
+abbrev pub asking : RunResult
 asking = confined 1 user (trying (0x80C0 ∷ 0 ∷ 0x5000 ∷ []) page)
 
 -- the one-parcel opcode 8, which is unimplemented
-abbrev pub unimplemented : Ended
+abbrev pub unimplemented : RunResult
 unimplemented = confined 1 user (trying (0x2000 ∷ []) page)
 
 -- five parcels of which two lie in the page that is not mapped
-abbrev pub crossing : Ended
+abbrev pub crossing : RunResult
 crossing = confined 1 (with user pc 0xFFA) (segmented (text 0xFFA (0xC6FC ∷ 0 ∷ 5 ∷ 0 ∷ 0x200 ∷ []) pages))
 
 -- "MOV 5, *0x200" by a page entry at 0x1000 that has Referenced and not Modified
-abbrev pub modifying : Ended
+abbrev pub modifying : RunResult
 modifying = confined 1 user (word 0x1000 0x0F (word 0 0x1001 (text 0x100 (0xC6FC ∷ 0 ∷ 5 ∷ 0 ∷ 0x200 ∷ []) pages)))
 
 -- one step at an interrupt level
-abbrev pub pausing : ℕ → Cpu → Ended
+abbrev pub pausing : ℕ → Cpu → RunResult
 pausing level c = run true 1 level (board c (segmented moving))
 
 unfoldable pub confinedRuns : List Bool
@@ -189,7 +189,7 @@ confinedRuns =
 
 abbrev pub passing : ℕ → ℕ → List Board
 passing budget level =
-    course (record { budget = budget; level = level })
+    execution (record { budget = budget; level = level })
     (board user (trying (0xC6FC ∷ 0 ∷ 5 ∷ 0 ∷ 0x200 ∷ 0xC6CC ∷ 0 ∷ 0x5000 ∷ 0 ∷ 0x200 ∷ []) page))
 
 -- a register of the board i that is passed
@@ -198,19 +198,19 @@ passed (s ∷ l) zero k = reg (s .cpu) k
 passed (s ∷ l) (suc i) k = passed l i k
 passed [] i k = 0
 
-unfoldable pub courses : List Bool
-courses =
-    -- the board of a faulting attempt left out of a course
+unfoldable pub executions : List Bool
+executions =
+    -- the board of a faulting attempt left out of an execution
     is (length (passing 2 7)) 2 1
     ∷ is (passed (passing 2 7) 0 pc) 0x10A 0x100
     ∷ is (passed (passing 2 7) 1 fault) 0x5000 0
-    -- a course beyond the budget, or of a run that is refused
+    -- an execution beyond the budget, or of a run that is refused
     ∷ is (length (passing 1 7)) 1 2
     ∷ is (length (passing 2 8)) 0 2
     ∷ []
 
 pub refusals-checked : T (all refusals)
-unfolding refusals run refusal goodBank advance turn step instructionStep attempt act finish fetchInstruction confinedTurn confinedAttempt tryActed counted executeMonadic executeNormal execute kcall pushFrame pushPair throughVector readWord32 fetchParcel fetchParcels fetchAfter fetchText onward _>>=_ parcelRequest frameRequest readFrame writeFrame interpret after touch follow access segmentOf segment nonpagedOf walkFrom walk route decodeShort decodeBare decodeOf load storeAnswer storeMemory readThrough
+unfolding refusals run refusal goodBank advance turn step instructionStep attempt act finish fetchInstruction confinedTurn confinedAttempt actConfined counted executeMonadic executeNormal execute kcall pushFrame pushPair throughVector readWord32 fetchParcel fetchParcels fetchAfter fetchText onward _>>=_ parcelRequest frameRequest readFrame writeFrame interpret after touch follow access segmentOf segment nonpagedOf walkFrom walk route decodeShort decodeBare decodeOf load storeAnswer storeMemory readThrough
 refusals-checked = tt
 
 pub steps-checked : T (all steps)
@@ -218,9 +218,9 @@ unfolding steps run refusal goodBank advance turn step instructionStep attempt a
 steps-checked = tt
 
 pub confinedRuns-checked : T (all confinedRuns)
-unfolding confinedRuns run refusal goodBank advance confinedTurn confinedAttempt tryActed fetchInstruction counted executeNormal execute addOf interlock move perform dyadic located locate readPlace readOperand writePlace writeAccumulator checkRegisters fetchParcel fetchParcels fetchAfter fetchText onward _>>=_ request parcelRequest readMemory readData writeMemory writeData interpret after touch follow access segmentOf segment nonpagedOf pageOf walkFrom walk route marked fresh recorded decodeShort decodeDyadic decodeMonadic decodeThree decodeWide decodeBare decodeOf load storeAnswer storeMemory
+unfolding confinedRuns run refusal goodBank advance confinedTurn confinedAttempt actConfined fetchInstruction counted executeNormal execute addOf interlock move perform dyadic located locate readPlace readOperand writePlace writeAccumulator checkRegisters fetchParcel fetchParcels fetchAfter fetchText onward _>>=_ request parcelRequest readMemory readData writeMemory writeData interpret after touch follow access segmentOf segment nonpagedOf pageOf walkFrom walk route marked fresh recorded decodeShort decodeDyadic decodeMonadic decodeThree decodeWide decodeBare decodeOf load storeAnswer storeMemory
 confinedRuns-checked = tt
 
-pub courses-checked : T (all courses)
-unfolding courses course passedOf refusal goodBank confinedTurn confinedAttempt tryActed fetchInstruction counted executeNormal execute move perform dyadic located locate readPlace readOperand writePlace checkRegisters fetchParcel fetchParcels fetchAfter fetchText onward _>>=_ request parcelRequest readMemory readData writeMemory writeData interpret after touch follow access segmentOf segment nonpagedOf walkFrom walk route decodeDyadic decodeWide decodeBare decodeOf load storeAnswer storeMemory
-courses-checked = tt
+pub executions-checked : T (all executions)
+unfolding executions execution passedOf refusal goodBank confinedTurn confinedAttempt actConfined fetchInstruction counted executeNormal execute move perform dyadic located locate readPlace readOperand writePlace checkRegisters fetchParcel fetchParcels fetchAfter fetchText onward _>>=_ request parcelRequest readMemory readData writeMemory writeData interpret after touch follow access segmentOf segment nonpagedOf walkFrom walk route decodeDyadic decodeWide decodeBare decodeOf load storeAnswer storeMemory
+executions-checked = tt

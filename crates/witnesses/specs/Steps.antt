@@ -8,56 +8,56 @@ use Rattle.word.specs.Sums.{addOf, subOf}
 use Rattle.memory.specs.Bytes.{Memory, load, storeAnswer, storeMemory}
 use Rattle.isa.specs.Decode.{decodeShort, decodeDyadic, decodeMonadic, decodeThree, decodeWide, decodePrefixed, decodeBare, decodeOf}
 use Rattle.mmu.specs.Walk.{segmentOf, segment, nonpagedOf, pageOf, walkFrom, walk, route, marked, fresh, recorded}
-use Rattle.program.specs.Access.{touch, follow, access}
-use Rattle.program.specs.Program.{interpret, after}
+use Rattle.access_spec.specs.Access.{touch, follow, access}
+use Rattle.access_spec.specs.Program.{interpret, after}
 use Rattle.machine.specs.Registers.{goodBank, isp, msp, pc, psw, shad, sp, traceDue}
 use Rattle.machine.specs.Status.{with}
-use Rattle.access.specs.Data.{readMemory, readData, writeMemory, writeData, readFrame, writeFrame, checkStore}
-use Rattle.access.specs.Parts.{onward, _>>=_, request, parcelRequest, frameRequest}
-use Rattle.access.specs.Text.{fetchParcel, fetchParcels, fetchAfter, fetchPrefixed, fetchText}
-use Rattle.exec.specs.Operands.{located, locate, readPlace, readOperand, writeRegister, writePlace, writeAccumulator, checkRegisters}
-use Rattle.exec.specs.Dyadic.{checkDivisor, compute, accumulate, interlock, move, perform, dyadic}
-use Rattle.exec.specs.Control.{readWord32, jump, call, callTo, readThrough}
-use Rattle.exec.specs.Stack.{stackTarget, enterPlain, enterAt, enter}
-use Rattle.exec.specs.Frames.{pushPair, pushFrame, throughVector, exceptionSequence, storePc, unimplementedSequence}
-use Rattle.exec.specs.Execute.{executeMonadic, executeNormal, execute}
-use Rattle.step.specs.Timers.{counted}
-use Rattle.step.specs.Step.{fetchInstruction, act, attempt, exceptionStep, finish, instructionStep, step}
-use Rattle.run.specs.Run.{Ended, turn, tryActed, confinedAttempt, confinedTurn, advance, refusal, run}
+use Rattle.datapath.specs.Data.{readMemory, readData, writeMemory, writeData, readFrame, writeFrame, checkStore}
+use Rattle.datapath.specs.Parts.{onward, _>>=_, request, parcelRequest, frameRequest}
+use Rattle.datapath.specs.Text.{fetchParcel, fetchParcels, fetchAfter, fetchPrefixed, fetchText}
+use Rattle.exec_spec.specs.Operands.{located, locate, readPlace, readOperand, writeRegister, writePlace, writeAccumulator, checkRegisters}
+use Rattle.exec_spec.specs.Dyadic.{checkDivisor, compute, accumulate, interlock, move, perform, dyadic}
+use Rattle.exec_spec.specs.Control.{readWord32, jump, call, callTo, readThrough}
+use Rattle.exec_spec.specs.Stack.{stackTarget, enterPlain, enterAt, enter}
+use Rattle.exec_spec.specs.Frames.{pushPair, pushFrame, throughVector, exceptionSequence, storePc, unimplementedSequence}
+use Rattle.exec_spec.specs.Execute.{executeMonadic, executeNormal, execute}
+use Rattle.step_spec.specs.Timers.{counted}
+use Rattle.step_spec.specs.Step.{fetchInstruction, act, attempt, exceptionStep, finish, instructionStep, step}
+use Rattle.run_spec.specs.Run.{RunResult, turn, actConfined, confinedAttempt, confinedTurn, advance, refusal, run}
 use Rattle.witnesses.specs.Boards.{is, all, page, word, text, kernel, user, segmented, runs, confined, register, memoryWord}
 
 -- ---- instructions, at kernel level: the stack is the interrupt stack at 0x800
 
 -- "MOV 5, 16(CSP)", with a KCALL vector
-abbrev pub moved : Ended
+abbrev pub moved : RunResult
 moved = runs 1 kernel (word 0x400 0x300 (text 0x100 (0x70A4 ∷ []) page))
 
 -- "SUB *0x200, *0x204": 7 less 5
-abbrev pub subtracted : Ended
+abbrev pub subtracted : RunResult
 subtracted =
     runs 1 kernel (word 0x200 5 (word 0x204 7 (text 0x100 (0xE0CC ∷ 0 ∷ 0x200 ∷ 0 ∷ 0x204 ∷ []) page)))
 
 -- "ADD3 3, *0x200", which holds 7
-abbrev pub accumulated : Ended
+abbrev pub accumulated : RunResult
 accumulated = runs 1 kernel (word 0x200 7 (text 0x100 (0xF3FC ∷ 0 ∷ 3 ∷ 0 ∷ 0x200 ∷ []) page))
 
 -- "ADDI 3, *0x200" and "ADDI 3, R4", each of which holds 7
-abbrev pub interlocked : Ended
+abbrev pub interlocked : RunResult
 interlocked = runs 1 kernel (word 0x200 7 (text 0x100 (0xC3FC ∷ 0 ∷ 3 ∷ 0 ∷ 0x200 ∷ []) page))
 
-abbrev pub interlockedAtR4 : Ended
+abbrev pub interlockedAtR4 : RunResult
 interlockedAtR4 = runs 1 kernel (word 0x804 7 (text 0x100 (0xC3FD ∷ 0 ∷ 3 ∷ 0 ∷ 4 ∷ []) page))
 
 -- "CALL *+0x20"
-abbrev pub called : Ended
+abbrev pub called : RunResult
 called = runs 1 kernel (text 0x100 (0x0410 ∷ []) page)
 
 -- "ENTER 0x608", with a PSW
-abbrev pub entered : ℕ → Ended
+abbrev pub entered : ℕ → RunResult
 entered p = runs 1 (with kernel psw p) (text 0x100 (0x80F9 ∷ 0 ∷ 0x608 ∷ []) page)
 
 -- the niladic 0x200, with the vectors of both unimplemented kinds
-abbrev pub trapped : Ended
+abbrev pub trapped : RunResult
 trapped = runs 1 kernel (word 0x408 0x308 (word 0x40C 0x30C (text 0x100 (0x2E00 ∷ []) page)))
 
 -- "CPU MOV v, REGISTER", by the register's number of Table 1-24
@@ -65,7 +65,7 @@ abbrev pub registerMoved : ℕ → ℕ → List ℕ
 registerMoved v n = 0x2C00 ∷ 0xC6F7 ∷ 0 ∷ v ∷ 0 ∷ n ∷ []
 
 -- "CPU MOV 0x500, SP", with a PSW
-abbrev pub stackMoved : ℕ → Ended
+abbrev pub stackMoved : ℕ → RunResult
 stackMoved p = runs 1 (with kernel psw p) (text 0x100 (registerMoved 0x500 3) page)
 
 unfoldable pub instructions : List Bool
@@ -104,29 +104,29 @@ instructions =
 -- ---- exceptions, confined: nothing is mapped from 0x1000 on
 
 -- "ADD *0x2, *0x5000": the source is not aligned, the destination not mapped
-abbrev pub twoFaults : Ended
+abbrev pub twoFaults : RunResult
 twoFaults = confined 1 user (segmented (text 0x100 (0xE3CC ∷ 0 ∷ 2 ∷ 0 ∷ 0x5000 ∷ []) page))
 
 -- "CPU MOV 0" to a register at user level
-abbrev pub registerWritten : ℕ → Ended
+abbrev pub registerWritten : ℕ → RunResult
 registerWritten n = confined 1 user (segmented (text 0x100 (registerMoved 0 n) page))
 
 -- the same to number 13, which no register has, at kernel level: the exception's number is in its frame
-abbrev pub noRegister : Ended
+abbrev pub noRegister : RunResult
 noRegister = runs 1 kernel (text 0x100 (registerMoved 0 13) page)
 
 -- "CALL 0x5000", whose target can't be fetched, and the step after it: confined, and with its event sequence
 abbrev pub callingAway : Memory
 callingAway = segmented (text 0x100 (0x80F1 ∷ 0 ∷ 0x5000 ∷ []) page)
 
-abbrev pub calledAway : Ended
+abbrev pub calledAway : RunResult
 calledAway = confined 2 user callingAway
 
-abbrev pub savedAway : Ended
+abbrev pub savedAway : RunResult
 savedAway = runs 2 user callingAway
 
 -- "MOV *0x5002, *0x200": neither aligned nor mapped
-abbrev pub unaligned : Ended
+abbrev pub unaligned : RunResult
 unaligned = confined 1 user (segmented (text 0x100 (0xC6CC ∷ 0 ∷ 0x5002 ∷ 0 ∷ 0x200 ∷ []) page))
 
 unfoldable pub exceptions : List Bool
@@ -155,5 +155,5 @@ unfolding instructions decodePrefixed writeRegister run refusal goodBank advance
 instructions-checked = tt
 
 pub exceptions-checked : T (all exceptions)
-unfolding exceptions run refusal goodBank advance turn step instructionStep attempt act finish exceptionStep exceptionSequence pushFrame pushPair throughVector frameRequest readFrame writeFrame confinedTurn confinedAttempt tryActed fetchInstruction counted executeMonadic executeNormal execute compute move perform dyadic located locate readPlace readOperand writeRegister writePlace checkRegisters readWord32 call fetchParcel fetchParcels fetchAfter fetchPrefixed fetchText onward _>>=_ request parcelRequest readMemory readData writeMemory writeData interpret after touch follow access segmentOf segment nonpagedOf pageOf walkFrom walk route marked fresh recorded decodeShort decodeDyadic decodeMonadic decodeThree decodeWide decodePrefixed decodeBare decodeOf load storeAnswer storeMemory callTo readThrough
+unfolding exceptions run refusal goodBank advance turn step instructionStep attempt act finish exceptionStep exceptionSequence pushFrame pushPair throughVector frameRequest readFrame writeFrame confinedTurn confinedAttempt actConfined fetchInstruction counted executeMonadic executeNormal execute compute move perform dyadic located locate readPlace readOperand writeRegister writePlace checkRegisters readWord32 call fetchParcel fetchParcels fetchAfter fetchPrefixed fetchText onward _>>=_ request parcelRequest readMemory readData writeMemory writeData interpret after touch follow access segmentOf segment nonpagedOf pageOf walkFrom walk route marked fresh recorded decodeShort decodeDyadic decodeMonadic decodeThree decodeWide decodePrefixed decodeBare decodeOf load storeAnswer storeMemory callTo readThrough
 exceptions-checked = tt

@@ -8,7 +8,7 @@ use lib.Dec.{ltb, leb}
 use borrow.Author.Tests.{leb-true, leb-false, ltb-true, ltb-false, lt-ltb, le-ltb}
 use Rattle.word.specs.Signed.{biased, outside, differOf}
 use Rattle.word.specs.Sums.{plusOf, minusOf}
-use Rattle.laws.proofs.Cases.{by-test}
+use Rattle.word.proofs.CaseLaws.{by-test}
 
 -- a sum has wrapped if it is below an operand
 pub wrapped-below : (b a : ℕ) → b < 2 ^ 32 → a < 2 ^ 32 → ltb (plusOf b a) b ≡ ltb 0xFFFF_FFFF (b + a)

@@ -1,6 +1,9 @@
-mod Exits
+pub mod MatchLaws
+pub mod CaseLaws
+pub mod FieldLaws
+mod SumLaws
 mod Flags
-pub mod Laws
-pub mod Meaning
-pub mod SignedProducts
+pub mod WordLaws
+pub mod MeaningLaws
+pub mod ProductLaws
 pub mod WidthLaws

@@ -12,8 +12,8 @@ use Rattle.word.specs.declared.Width.{Width}
 use Rattle.word.specs.declared.Width.the-variants.{Byte, Half, Word}
 use Rattle.word.specs.Shifts.{shlOf, shrOf}
 use Rattle.word.specs.Widths.{bitsOf, truncateOf, signExtendOf}
-use Rattle.laws.proofs.Cases.{by-test}
-use Rattle.word.proofs.Laws.{low-lt}
+use Rattle.word.proofs.CaseLaws.{by-test}
+use Rattle.word.proofs.WordLaws.{low-lt}
 
 -- every width has from 1 to 32 bits, so that each law below holds of it
 pub bits-pos : (w : Width) → 0 < bitsOf w

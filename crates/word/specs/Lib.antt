@@ -1,3 +1,4 @@
+pub mod Fields
 pub mod Products
 pub mod Shifts
 pub mod Signed

@@ -1,5 +1,6 @@
 // 32-bit words: sums, products, quotients, shifts, widths and tagged sums, with the flags of the manual's section 1.8.
 // Where a function has b and a, b is the destination operand of the instruction and a its source operand.
+pub mod fields;
 pub mod products;
 pub mod shifts;
 pub mod sums;

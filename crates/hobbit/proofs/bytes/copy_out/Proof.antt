@@ -1,6 +1,6 @@
 use Prim.Native.Nat.{_-_}
 use lib.ListN.{length, take, drop}
-use Rattle.machine.proofs.Flat.{Front, front-none}
+use Rattle.machine.proofs.FlatLaws.{Front, front-none}
 use Rattle.hobbit.proofs.ByteLaws.{loaded-more, loaded-all}
 use borrow.Author.Needs.{needs}
 use Rattle.hobbit.proofs.bytes.copy_out.Statement.{statement}

@@ -1,7 +1,7 @@
 use mathlib.Core.Path.{refl, ap, _∙_}
 use Rattle.machine.specs.Registers.{goodBank}
 use Rattle.machine.specs.Record.{bankOf}
-use Rattle.machine.proofs.Tests.{test-held, test-failed}
+use Rattle.machine.proofs.TestLaws.{test-held, test-failed}
 use borrow.Author.Needs.{needs}
 use Rattle.machine.proofs.assign.refusal.Statement.{statement}
 use Rattle.machine.proofs.assign.refusal.Tie as tie

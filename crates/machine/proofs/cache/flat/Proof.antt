@@ -1,6 +1,6 @@
 use Prim.Native.Nat.{_-_, _*_}
 use Rattle.machine.specs.Cache.{flatTo}
-use Rattle.machine.proofs.Flat.{Front, front-none, flat-more, flat-all}
+use Rattle.machine.proofs.FlatLaws.{Front, front-none, flat-more, flat-all}
 use borrow.Author.Needs.{needs}
 use Rattle.machine.proofs.cache.flat.Statement.{statement}
 use Rattle.machine.proofs.cache.flat.Tie as tie

@@ -1,6 +1,6 @@
 use Prim.Native.Nat.{_-_}
 use Rattle.machine.specs.Cache.{quadsTo}
-use Rattle.machine.proofs.Flat.{Front, front-none, quads-more, quads-all}
+use Rattle.machine.proofs.FlatLaws.{Front, front-none, quads-more, quads-all}
 use borrow.Author.Needs.{needs}
 use Rattle.machine.proofs.cache.quads.Statement.{statement}
 use Rattle.machine.proofs.cache.quads.Tie as tie

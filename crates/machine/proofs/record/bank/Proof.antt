@@ -3,8 +3,8 @@ use mathlib.Core.List.{List, _++_}
 use mathlib.Core.Path.{_≡_, refl, ap}
 use lib.ListN.{length}
 use Rattle.machine.specs.Record.{dues}
-use Rattle.machine.proofs.Sizes.{registers-13}
-use Rattle.machine.proofs.Words.{words-all}
+use Rattle.machine.proofs.SizeLaws.{registers-13}
+use Rattle.machine.proofs.WordLaws.{words-all}
 use borrow.Author.Needs.{needs}
 use Rattle.machine.proofs.record.bank.Statement.{statement}
 use Rattle.machine.proofs.record.bank.Tie as tie

@@ -1,6 +1,6 @@
 use mathlib.Core.Path.{sym, ap}
 use Prim.Native.Nat.{zero-le}
-use Rattle.laws.proofs.Match.{climb}
+use Rattle.word.proofs.MatchLaws.{climb}
 use Rattle.machine.specs.Masks.{maskOf}
 use Rattle.machine.proofs.RegisterLaws.{mask-rest}
 use Rattle.machine.proofs.registers.mask.Statement.{statement}

@@ -1,7 +1,7 @@
 use mathlib.Core.Path.{sym, ap}
 use Prim.Native.Nat.{zero-le}
 use lib.ListN.{List·getD-eq-default}
-use Rattle.laws.proofs.Match.{climb}
+use Rattle.word.proofs.MatchLaws.{climb}
 use Rattle.machine.specs.Registers.{prefixedRegisters, bankSize, registerOf}
 use Rattle.machine.proofs.registers.register_of.Statement.{statement}
 use Rattle.machine.proofs.registers.register_of.Tie as tie

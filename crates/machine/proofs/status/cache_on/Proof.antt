@@ -1,4 +1,4 @@
-use Rattle.machine.proofs.Tests.{both}
+use Rattle.machine.proofs.TestLaws.{both}
 use borrow.Author.Needs.{needs}
 use Rattle.machine.proofs.status.cache_on.Statement.{statement}
 use Rattle.machine.proofs.status.cache_on.Tie as tie

@@ -1,4 +1,4 @@
-use Rattle.machine.proofs.Tests.{test-held, test-failed}
+use Rattle.machine.proofs.TestLaws.{test-held, test-failed}
 use borrow.Author.Needs.{needs}
 use Rattle.machine.proofs.status.is_little.Statement.{statement}
 use Rattle.machine.proofs.status.is_little.Tie as tie

@@ -1,4 +1,4 @@
-use Rattle.memory.proofs.Exits.{load-1, load-past}
+use Rattle.memory.proofs.StoreLaws.{load-1, load-past}
 use borrow.Author.Needs.{needs}
 use Rattle.memory.proofs.loads.load_byte.Statement.{statement}
 use Rattle.memory.proofs.loads.load_byte.Tie as tie

@@ -1,4 +1,4 @@
-use Rattle.memory.proofs.Exits.{load-2, load-past}
+use Rattle.memory.proofs.StoreLaws.{load-2, load-past}
 use borrow.Author.Needs.{needs}
 use Rattle.memory.proofs.loads.load_half.Statement.{statement}
 use Rattle.memory.proofs.loads.load_half.Tie as tie

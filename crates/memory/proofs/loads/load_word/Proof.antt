@@ -1,4 +1,4 @@
-use Rattle.memory.proofs.Exits.{load-4, load-past}
+use Rattle.memory.proofs.StoreLaws.{load-4, load-past}
 use borrow.Author.Needs.{needs}
 use Rattle.memory.proofs.loads.load_word.Statement.{statement}
 use Rattle.memory.proofs.loads.load_word.Tie as tie

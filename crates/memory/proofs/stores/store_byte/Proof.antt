@@ -1,4 +1,4 @@
-use Rattle.memory.proofs.Exits.{store-1, store-past}
+use Rattle.memory.proofs.StoreLaws.{store-1, store-past}
 use borrow.Author.Needs.{needs}
 use Rattle.memory.proofs.stores.store_byte.Statement.{statement}
 use Rattle.memory.proofs.stores.store_byte.Tie as tie

@@ -1,6 +1,6 @@
 use native.Mathlib.Omega.{arith}
 use lib.ListN.{length-set}
-use Rattle.memory.proofs.Exits.{store-2, store-past}
+use Rattle.memory.proofs.StoreLaws.{store-2, store-past}
 use borrow.Author.Needs.{needs}
 use Rattle.memory.proofs.stores.store_half.Statement.{statement}
 use Rattle.memory.proofs.stores.store_half.Tie as tie

@@ -1,6 +1,6 @@
 use native.Mathlib.Omega.{arith}
 use lib.ListN.{length-set}
-use Rattle.memory.proofs.Exits.{store-4, store-past}
+use Rattle.memory.proofs.StoreLaws.{store-4, store-past}
 use borrow.Author.Needs.{needs}
 use Rattle.memory.proofs.stores.store_word.Statement.{statement}
 use Rattle.memory.proofs.stores.store_word.Tie as tie

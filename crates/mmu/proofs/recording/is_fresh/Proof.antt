@@ -1,4 +1,4 @@
-use Rattle.mmu.proofs.Exits.{fresh-test}
+use Rattle.mmu.proofs.WalkLaws.{fresh-test}
 use borrow.Author.Needs.{needs}
 use Rattle.mmu.proofs.recording.is_fresh.Statement.{statement}
 use Rattle.mmu.proofs.recording.is_fresh.Tie as tie

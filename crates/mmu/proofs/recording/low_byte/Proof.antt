@@ -1,4 +1,4 @@
-use Rattle.mmu.proofs.Exits.{past-end}
+use Rattle.mmu.proofs.WalkLaws.{past-end}
 use borrow.Author.Needs.{needs}
 use Rattle.mmu.proofs.recording.low_byte.Statement.{statement}
 use Rattle.mmu.proofs.recording.low_byte.Tie as tie

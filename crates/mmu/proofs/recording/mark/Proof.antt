@@ -1,4 +1,4 @@
-use Rattle.mmu.proofs.Exits.{marked-write, marked-other}
+use Rattle.mmu.proofs.WalkLaws.{marked-write, marked-other}
 use borrow.Author.Needs.{needs}
 use Rattle.mmu.proofs.recording.mark.Statement.{statement}
 use Rattle.mmu.proofs.recording.mark.Tie as tie

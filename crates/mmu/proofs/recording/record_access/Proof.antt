@@ -1,4 +1,4 @@
-use Rattle.mmu.proofs.Exits.{recorded-new, recorded-old}
+use Rattle.mmu.proofs.WalkLaws.{recorded-new, recorded-old}
 use borrow.Author.Needs.{needs}
 use Rattle.mmu.proofs.recording.record_access.Statement.{statement}
 use Rattle.mmu.proofs.recording.record_access.Tie as tie

@@ -1,4 +1,4 @@
-use Rattle.mmu.proofs.Exits.{set-past-end}
+use Rattle.mmu.proofs.WalkLaws.{set-past-end}
 use borrow.Author.Needs.{needs}
 use Rattle.mmu.proofs.recording.set_low_byte.Statement.{statement}
 use Rattle.mmu.proofs.recording.set_low_byte.Tie as tie

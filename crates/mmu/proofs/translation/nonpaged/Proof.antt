@@ -1,4 +1,4 @@
-use Rattle.mmu.proofs.Exits.{nonpaged-permitted, nonpaged-fault}
+use Rattle.mmu.proofs.WalkLaws.{nonpaged-permitted, nonpaged-fault}
 use borrow.Author.Needs.{needs}
 use Rattle.mmu.proofs.translation.nonpaged.Statement.{statement}
 use Rattle.mmu.proofs.translation.nonpaged.Tie as tie

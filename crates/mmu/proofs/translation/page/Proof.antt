@@ -1,4 +1,4 @@
-use Rattle.mmu.proofs.Exits.{page-permitted, page-fault}
+use Rattle.mmu.proofs.WalkLaws.{page-permitted, page-fault}
 use borrow.Author.Needs.{needs}
 use Rattle.mmu.proofs.translation.page.Statement.{statement}
 use Rattle.mmu.proofs.translation.page.Tie as tie

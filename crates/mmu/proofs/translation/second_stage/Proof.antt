@@ -1,4 +1,4 @@
-use Rattle.mmu.proofs.Exits.{walk-outside, walk-invalid, walk-nonpaged, walk-table}
+use Rattle.mmu.proofs.WalkLaws.{walk-outside, walk-invalid, walk-nonpaged, walk-table}
 use borrow.Author.Needs.{needs}
 use Rattle.mmu.proofs.translation.second_stage.Statement.{statement}
 use Rattle.mmu.proofs.translation.second_stage.Tie as tie

@@ -1,4 +1,4 @@
-use Rattle.mmu.proofs.Exits.{entry-inside, entry-outside}
+use Rattle.mmu.proofs.WalkLaws.{entry-inside, entry-outside}
 use borrow.Author.Needs.{needs}
 use Rattle.mmu.proofs.translation.segment_entry.Statement.{statement}
 use Rattle.mmu.proofs.translation.segment_entry.Tie as tie

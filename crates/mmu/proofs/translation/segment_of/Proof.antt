@@ -1,4 +1,4 @@
-use Rattle.mmu.proofs.Exits.{of-invalid, of-nonpaged, of-table, of-outside}
+use Rattle.mmu.proofs.WalkLaws.{of-invalid, of-nonpaged, of-table, of-outside}
 use borrow.Author.Needs.{needs}
 use Rattle.mmu.proofs.translation.segment_of.Statement.{statement}
 use Rattle.mmu.proofs.translation.segment_of.Tie as tie

@@ -1,4 +1,4 @@
-use Rattle.word.proofs.Exits.{divided}
+use Rattle.word.proofs.SumLaws.{divided}
 use borrow.Author.Needs.{needs}
 use Rattle.word.proofs.products.div.Statement.{statement}
 use Rattle.word.proofs.products.div.Tie as tie

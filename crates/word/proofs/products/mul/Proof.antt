@@ -1,4 +1,4 @@
-use Rattle.word.proofs.Exits.{multiplied}
+use Rattle.word.proofs.SumLaws.{multiplied}
 use borrow.Author.Needs.{needs}
 use Rattle.word.proofs.products.mul.Statement.{statement}
 use Rattle.word.proofs.products.mul.Tie as tie

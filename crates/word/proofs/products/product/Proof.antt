@@ -1,4 +1,4 @@
-use Rattle.word.proofs.Laws.{product-lt}
+use Rattle.word.proofs.WordLaws.{product-lt}
 use borrow.Author.Needs.{needs}
 use Rattle.word.proofs.products.product.Statement.{statement}
 use Rattle.word.proofs.products.product.Tie as tie

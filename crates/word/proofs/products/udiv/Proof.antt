@@ -1,4 +1,4 @@
-use Rattle.word.proofs.Exits.{by-zero}
+use Rattle.word.proofs.SumLaws.{by-zero}
 use borrow.Author.Needs.{needs}
 use Rattle.word.proofs.products.udiv.Statement.{statement}
 use Rattle.word.proofs.products.udiv.Tie as tie

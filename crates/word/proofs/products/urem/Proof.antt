@@ -1,4 +1,4 @@
-use Rattle.word.proofs.Exits.{rest-by-zero}
+use Rattle.word.proofs.SumLaws.{rest-by-zero}
 use borrow.Author.Needs.{needs}
 use Rattle.word.proofs.products.urem.Statement.{statement}
 use Rattle.word.proofs.products.urem.Tie as tie

@@ -1,4 +1,4 @@
-use Rattle.word.proofs.Exits.{shr-negative, shr-positive, shr-fits}
+use Rattle.word.proofs.SumLaws.{shr-negative, shr-positive, shr-fits}
 use borrow.Author.Needs.{needs}
 use Rattle.word.proofs.shifts.shr.Statement.{statement}
 use Rattle.word.proofs.shifts.shr.Tie as tie

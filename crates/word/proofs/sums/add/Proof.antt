@@ -1,4 +1,4 @@
-use Rattle.word.proofs.Exits.{added}
+use Rattle.word.proofs.SumLaws.{added}
 use borrow.Author.Needs.{needs}
 use Rattle.word.proofs.sums.add.Statement.{statement}
 use Rattle.word.proofs.sums.add.Tie as tie

@@ -1,4 +1,4 @@
-use Rattle.word.proofs.Exits.{subtracted}
+use Rattle.word.proofs.SumLaws.{subtracted}
 use borrow.Author.Needs.{needs}
 use Rattle.word.proofs.sums.sub.Statement.{statement}
 use Rattle.word.proofs.sums.sub.Tie as tie

@@ -1,4 +1,4 @@
-use Rattle.word.proofs.Exits.{tagged-bad, tagged-good}
+use Rattle.word.proofs.SumLaws.{tagged-bad, tagged-good}
 use borrow.Author.Needs.{needs}
 use Rattle.word.proofs.tags.tagged.Statement.{statement}
 use Rattle.word.proofs.tags.tagged.Tie as tie

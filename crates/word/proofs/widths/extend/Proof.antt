@@ -1,4 +1,4 @@
-use Rattle.word.proofs.Exits.{extended}
+use Rattle.word.proofs.SumLaws.{extended}
 use borrow.Author.Needs.{needs}
 use Rattle.word.proofs.widths.extend.Statement.{statement}
 use Rattle.word.proofs.widths.extend.Tie as tie

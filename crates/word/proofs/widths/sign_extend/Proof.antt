@@ -1,4 +1,4 @@
-use Rattle.word.proofs.Exits.{shifts-fit, width-extended}
+use Rattle.word.proofs.SumLaws.{shifts-fit, width-extended}
 use borrow.Author.Needs.{needs}
 use Rattle.word.proofs.widths.sign_extend.Statement.{statement}
 use Rattle.word.proofs.widths.sign_extend.Tie as tie

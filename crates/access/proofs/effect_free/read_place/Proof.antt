@@ -1,0 +1,19 @@
+use Rattle.access.proofs.EffectFreeLaws.{place-walked, place-physical}
+use borrow.Author.Needs.{needs}
+use Rattle.access.proofs.effect_free.read_place.Statement.{statement}
+use Rattle.access.proofs.effect_free.read_place.Tie as tie
+
+translate-read-requires : tie.Need-translate-read-requires
+translate-read-requires c κs = search needs
+
+settled-requires : tie.Need-settled-requires
+settled-requires c κs = search needs
+
+returns : tie.Need-returns
+returns c = search (needs, place-walked)
+
+returns-2 : tie.Need-returns-2
+returns-2 c = search (needs, place-physical)
+
+pub read-place-spec : {M : Type 1} → statement M
+read-place-spec = tie.close (tie.spec translate-read-requires settled-requires returns returns-2)

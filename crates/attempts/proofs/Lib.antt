@@ -1,3 +1,0 @@
-pub mod ExecuteLaws
-pub mod ActLaws
-pub mod AttemptLaws

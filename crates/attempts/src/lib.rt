@@ -1,3 +1,0 @@
-// An attempt at the instruction at PC: fetched, decoded and executed.
-pub mod attempt;
-pub mod execute;

@@ -1,9 +1,0 @@
-use Rattle.bits.proofs.Laws.{joined-masked}
-use Rattle.bits.proofs.joined.Statement.{statement}
-use Rattle.bits.proofs.joined.Tie as tie
-
-returns : tie.Need-returns
-returns c = joined-masked _ _ (c .fits .high .fits) (c .fits .low .fits)
-
-pub joined-spec : {M : Type 1} → statement M
-joined-spec = tie.close (tie.spec returns)

@@ -1,0 +1,113 @@
+-- No answer is left out where the buffer has thirteen bytes for each byte that was read.
+-- Assumes nothing.
+use mathlib.Core.Path.{_≡_, refl, sym, ap, _∙_}
+use mathlib.Core.Bool.{Bool, true, false, _&&_}
+use mathlib.Core.List.{List, [], _∷_}
+use Prim.Native.Nat.{ℕ, zero, suc, _+_, _*_, _≤_}
+use native.Mathlib.Nat.{add-assoc, add-zero}
+use native.Mathlib.Omega.{arith}
+use lib.ListN.{length, length-append}
+use lib.Dec.{eqb}
+use Rattle.word.proofs.CaseLaws.{by-test}
+use Rattle.run_spec.specs.Run.{Board}
+use Rattle.machine.specs.Registers.{setRegister}
+use Rattle.board_lines.specs.declared.Frame.{Frame}
+use Rattle.board_lines.specs.declared.Frame.the-variants.{Set, Store, Run, Confined, Bad}
+use Rattle.board_lines.specs.Lines.{isLength, frameOf}
+use Rattle.board_lines.specs.Stores.{frameStore}
+use Rattle.board_lines.specs.Answers.{Output, output, written, printed}
+use Rattle.board_lines.proofs.FrameLaws.{least, bad-length}
+use Rattle.board_lines.proofs.AnswerLaws.{length-written, written-on, fits}
+use Rattle.board_conversation.specs.Conversation.{Answered, unlessDone, lineAnswer, frameAnswer, next, conversation}
+use Rattle.board_conversation.specs.Code.{BoardIo, boardIo}
+use Rattle.board_conversation.specs.Blocks.{ontoEnded, endedLines, isLongRun, together, linesOn}
+use Rattle.board_conversation.specs.Loop.{exchangeLines, exchangeOf, lastLine}
+
+-- ---- what a line prints at most
+
+unless-short : (n r : ℕ) → length (unlessDone n r) ≤ 13
+unless-short n zero = omega arith
+unless-short n (suc r) = omega arith
+
+frame-short : (n : ℕ) (s : List ℕ) (b : Board) (f : Frame) → length (frameAnswer n s b f .printed) ≤ 31
+unfolding frameAnswer
+frame-short n s b (Set p v) = omega (arith, unless-short n (setRegister (b .cpu .bank) p v .refusal))
+frame-short n s b (Store a) = omega (arith, unless-short n (frameStore s (b .memory) a .refusal))
+frame-short n s b (Run k l) = omega arith
+frame-short n s b (Confined k l) = omega arith
+frame-short n s b Bad = omega arith
+
+bad-short : (n : ℕ) (s : List ℕ) (b : Board) → length (frameAnswer n s b Bad .printed) ≤ 13
+unfolding frameAnswer
+bad-short n s b = omega arith
+
+answer-short : (n : ℕ) (s : List ℕ) (b : Board) → length (lineAnswer n s b .printed) ≤ suc (length s) * 13
+answer-short n s b =
+    by-test (isLength (length s))
+    (λ h. omega (arith, frame-short n s b (frameOf s), least (length s) true (sym h) refl))
+    (λ h. let e = bad-length s false (sym h) refl in
+    rw (sym e) (omega (arith, bad-short n s b)))
+
+-- the room that lines need, their newlines counted
+room : List (List ℕ) → ℕ
+room [] = 0
+room (s ∷ t) = suc (length s) * 13 + room t
+
+-- ---- lines one after the other
+
+-- the board and the buffer after a conversation
+abbrev answeredOver : Answered → List ℕ → ℕ → BoardIo
+answeredOver a o p = boardIo (a .board) (output (written o p (a .printed)) (p + length (a .printed)))
+
+roomy : (l : List (List ℕ)) (n : ℕ) (b : Board) (o : List ℕ) (p : ℕ) → p + room l ≤ length o
+    → linesOn n l (boardIo b (output o p)) ≡ answeredOver (conversation n l b) o p
+unfolding linesOn conversation room
+roomy [] n b o p h = (λ i. boardIo b (output o (sym (add-zero p) i)))
+roomy (s ∷ l) n b o p h =
+    let a = lineAnswer n s b in
+    let t = a .printed in
+    let w = conversation (next n) l (a .board) .printed in
+    let k = answer-short n s b in
+    let fit : printed t (output o p) ≡ output (written o p t) (p + length t) =
+    sym (fits t o p (written o p t) (length t) refl (omega arith) refl) in
+    ap (λ (x : Output). linesOn (next n) l (boardIo (a .board) x)) fit
+    ∙ roomy l (next n) (a .board) (written o p t) (p + length t) (rw (length-written t o p) (omega arith))
+    ∙ (λ i. boardIo (conversation (next n) l (a .board) .board)
+    (output (written-on t w o p i) ((add-assoc p (length t) (length w) ∙ ap (λ (x : ℕ). p + x) (sym (length-append t w))) i)))
+
+room-onto : (b : ℕ) (l : List (List ℕ)) → room (ontoEnded b l) ≤ 13 + room l
+unfolding room
+room-onto b [] = omega arith
+room-onto b (s ∷ l) = omega arith
+
+room-ended : (t : List ℕ) → room (endedLines t) ≤ length t * 13
+unfolding endedLines room
+room-ended [] = omega arith
+room-ended (b ∷ t) =
+    by-test (eqb b 10)
+    (λ e. rw e (omega (arith, room-ended t)))
+    (λ e. rw e (omega (arith, room-ended t, room-onto b (endedLines t))))
+
+room-together : (begun : Bool) (l : List (List ℕ)) → room (together begun l) ≤ room l
+unfolding together room
+room-together begun [] = omega arith
+room-together begun (s ∷ l) =
+    by-test (begun && isLongRun (frameOf s)) (λ e. rw e (omega arith)) (λ e. rw e (omega (arith, room-together true l)))
+
+-- ---- an exchange of the loop
+
+pub exchange-printed : (n : ℕ) (t : List ℕ) (b : Board) (o : List ℕ) → length t * 13 ≤ length o
+    → exchangeOf n t (boardIo b (output o 0)) .boardIo ≡ answeredOver (conversation (next n) (exchangeLines t) b) o 0
+exchange-printed n t b o h =
+    roomy (exchangeLines t) (next n) b o 0 (omega (arith, room-ended t, room-together false (endedLines t)))
+
+-- ---- the end of input
+
+room-last : (c : List ℕ) → room (lastLine c) ≤ suc (length c) * 13
+unfolding room
+room-last [] = omega arith
+room-last (b ∷ c) = omega arith
+
+pub end-printed : (n : ℕ) (c : List ℕ) (b : Board) (o : List ℕ) → suc (length c) * 13 ≤ length o
+    → linesOn (next n) (lastLine c) (boardIo b (output o 0)) ≡ answeredOver (conversation (next n) (lastLine c) b) o 0
+end-printed n c b o h = roomy (lastLine c) (next n) b o 0 (omega (arith, room-last c))

@@ -1,0 +1,53 @@
+use Rattle.board_conversation.proofs.PartLaws.{none-left, one-left}
+use borrow.Author.Needs.{needs}
+use Rattle.board_conversation.proofs.exchanges.finish.Statement.{statement}
+use Rattle.board_conversation.proofs.exchanges.finish.Tie as tie
+
+least-requires : tie.Need-least-requires
+least-requires c κs = search needs
+
+least-requires-2 : tie.Need-least-requires-2
+least-requires-2 c κs = search needs
+
+returns : tie.Need-returns
+returns c = search (needs, none-left)
+
+wrapping-add-u32-requires : tie.Need-wrapping-add-u32-requires
+wrapping-add-u32-requires c κs = search needs
+
+sub-tell : tie.Need-sub-answer-line
+sub-tell c = search needs
+
+part-tell-start : tie.Need-part-answer-line-start
+part-tell-start c = search needs
+
+part-tell-end : tie.Need-part-answer-line-end
+part-tell-end c = search needs
+
+answer-line-requires : tie.Need-answer-line-requires
+answer-line-requires c κs = search needs
+
+same-length : tie.Need-same-length
+same-length c = search needs
+
+same-length-2 : tie.Need-same-length-2
+same-length-2 c = search needs
+
+returns-2 : tie.Need-returns-2
+returns-2 c = search (needs, one-left)
+
+pub finish-spec : {M : Type 1} → statement M
+finish-spec =
+    tie.close
+    (tie.spec
+    least-requires
+    least-requires-2
+    returns
+    wrapping-add-u32-requires
+    sub-tell
+    part-tell-start
+    part-tell-end
+    answer-line-requires
+    same-length
+    same-length-2
+    returns-2)

@@ -1,0 +1,4 @@
+pub mod Conversation
+pub mod Code
+pub mod Blocks
+pub mod Loop

@@ -1,0 +1,88 @@
+-- The lines that are printed: digits by twos, and texts one after the other.
+-- Assumes nothing.
+use mathlib.Core.Path.{_≡_, refl, sym, ap, _∙_}
+use mathlib.Core.List.{List, [], _∷_, _++_}
+use Prim.Native.Nat.{ℕ, suc, _+_, _/_, _%_, _≤_, _<_}
+use native.Mathlib.Nat.{add-zero, div-one, div-div-eq-div-mul}
+use native.Mathlib.Numerals.{add-one}
+use native.Mathlib.Omega.{arith}
+use lib.ListN.{length, set, length-set}
+use borrow.Author.Tests.{le-leb, lt-leb}
+use Rattle.board_lines.specs.Digits.{digitByte, digits}
+use Rattle.board_lines.specs.Answers.{written, output, printed, refusedLine, ranLine}
+
+-- ---- texts
+
+pub length-written : (t o : List ℕ) (p : ℕ) → length (written o p t) ≡ length o
+length-written [] o p = refl
+length-written (b ∷ t) o p = length-written t (set o p b) (suc p) ∙ length-set o p b
+
+pub written-on : (a b o : List ℕ) (p : ℕ) → written (written o p a) (p + length a) b ≡ written o p (a ++ b)
+written-on [] b o p = rw add-zero refl
+written-on (x ∷ a) b o p =
+    let e : p + suc (length a) ≡ suc p + length a = omega arith in
+    rw e (written-on a b (set o p x) (suc p))
+
+-- a text after another
+on : (a b o x y : List ℕ) (p q : ℕ) → x ≡ written o p a → y ≡ written x q b → q ≡ p + length a → y ≡ written o p (a ++ b)
+on a b o x y p q e g h = g ∙ (λ i. written (e i) (h i) b) ∙ written-on a b o p
+
+-- ---- digits
+
+pub byte-written : (o : List ℕ) (p x c d : ℕ) → c ≡ digitByte (x / 16 % 16) → d ≡ digitByte (x % 16)
+    → set (set o p c) (p + 1) d ≡ written o p (digits 2 x)
+byte-written o p x c d e g = rw (add-one, e, g, div-one) refl
+
+four : (x : ℕ) → digits 2 (x / 0x100_0000) ++ digits 2 (x / 0x1_0000) ++ digits 2 (x / 0x100) ++ digits 2 x ≡ digits 8 x
+four x =
+    rw (div-one (x / 0x100_0000), div-one (x / 0x1_0000), div-one (x / 0x100), div-div-eq-div-mul x 0x100_0000 16, div-div-eq-div-mul x 0x1_0000 16, div-div-eq-div-mul x 0x100 16) refl
+
+pub word-written : (o w x y z : List ℕ) (p v : ℕ) → w ≡ written o p (digits 2 (v / 0x100_0000))
+    → x ≡ written w (p + 2) (digits 2 (v / 0x1_0000)) → y ≡ written x (p + 4) (digits 2 (v / 0x100)) → z ≡ written y (p + 6) (digits 2 v)
+    → z ≡ written o p (digits 8 v)
+word-written o w x y z p v e f g h =
+    let a = on (digits 2 (v / 0x100_0000)) (digits 2 (v / 0x1_0000)) o w x p (p + 2) e f refl in
+    let b = on (digits 2 (v / 0x100_0000) ++ digits 2 (v / 0x1_0000)) (digits 2 (v / 0x100)) o x y p (p + 4) a g refl in
+    on (digits 2 (v / 0x100_0000) ++ digits 2 (v / 0x1_0000) ++ digits 2 (v / 0x100)) (digits 2 v) o y z p (p + 6) b h refl
+    ∙ ap (written o p) (four v)
+
+-- ---- a line, whole or left out
+
+module _ (t o : List ℕ) (p : ℕ) where
+  pub fits : (x : List ℕ) (n : ℕ) → n ≡ length t → p + n ≤ length o → x ≡ written o p t → output x (p + n) ≡ printed t (output o p)
+  unfolding printed
+  fits x n e h g = rw (sym e, le-leb (p + n) (length o) h) (ap (λ (y : List ℕ). output y (p + n)) g)
+
+  pub full : (n : ℕ) → n ≡ length t → length o < p + n → output o p ≡ printed t (output o p)
+  unfolding printed
+  full n e h = rw (sym e, lt-leb (p + n) (length o) h) refl
+
+module _ (o : List ℕ) (p : ℕ) where
+  pub refused-in : (w x y : List ℕ) (r l : ℕ) → p + 13 ≤ length o → w ≡ written o p (digits 2 0x82)
+      → x ≡ written w (p + 2) (digits 2 r) → y ≡ written x (p + 4) (digits 8 l)
+      → output (set y (p + 12) 10) (p + 13) ≡ printed (refusedLine r l) (output o p)
+  refused-in w x y r l h e f g =
+      let a = on (digits 2 0x82) (digits 2 r) o w x p (p + 2) e f refl in
+      let b = on (digits 2 0x82 ++ digits 2 r) (digits 8 l) o x y p (p + 4) a g refl in
+      let c = on (digits 2 0x82 ++ digits 2 r ++ digits 8 l) (10 ∷ []) o y (set y (p + 12) 10) p (p + 12) b refl refl in
+      fits (refusedLine r l) o p (set y (p + 12) 10) 13 refl h c
+
+  pub refused-out : (r l : ℕ) → length o < p + 13 → output o p ≡ printed (refusedLine r l) (output o p)
+  refused-out r l h = full (refusedLine r l) o p 13 refl h
+
+  module _ (n a b c d : ℕ) where
+    pub ran-in : (s t u v w x : List ℕ) → p + 31 ≤ length o → s ≡ written o p (digits 2 0x83) → t ≡ written s (p + 2) (digits 8 n)
+        → u ≡ written t (p + 10) (digits 2 a) → v ≡ written u (p + 12) (digits 2 b) → w ≡ written v (p + 14) (digits 8 c)
+        → x ≡ written w (p + 22) (digits 8 d)
+        → output (set x (p + 30) 10) (p + 31) ≡ printed (ranLine n a b c d) (output o p)
+    ran-in s t u v w x h e f g i j k =
+        let q = on (digits 2 0x83) (digits 8 n) o s t p (p + 2) e f refl in
+        let q = on (digits 2 0x83 ++ digits 8 n) (digits 2 a) o t u p (p + 10) q g refl in
+        let q = on (digits 2 0x83 ++ digits 8 n ++ digits 2 a) (digits 2 b) o u v p (p + 12) q i refl in
+        let q = on (digits 2 0x83 ++ digits 8 n ++ digits 2 a ++ digits 2 b) (digits 8 c) o v w p (p + 14) q j refl in
+        let q = on (digits 2 0x83 ++ digits 8 n ++ digits 2 a ++ digits 2 b ++ digits 8 c) (digits 8 d) o w x p (p + 22) q k refl in
+        let q = on (digits 2 0x83 ++ digits 8 n ++ digits 2 a ++ digits 2 b ++ digits 8 c ++ digits 8 d) (10 ∷ []) o x (set x (p + 30) 10) p (p + 30) q refl refl in
+        fits (ranLine n a b c d) o p (set x (p + 30) 10) 31 refl h q
+
+    pub ran-out : length o < p + 31 → output o p ≡ printed (ranLine n a b c d) (output o p)
+    ran-out h = full (ranLine n a b c d) o p 31 refl h

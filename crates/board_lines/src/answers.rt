@@ -1,0 +1,73 @@
+// The lines that are printed, into a lent buffer. Each answers the place after it; a line for which there is no room is
+// left out.
+use crate::digits::last_digit;
+ghost use mathlib.Core.Path.{_≡_};
+ghost use Prim.Native.Nat.{_+_, _≤_};
+ghost use lib.ListN.{length};
+ghost use Rattle.board_lines.specs.Digits.{digits};
+ghost use Rattle.board_lines.specs.Answers.{written, output, printed, refusedLine, ranLine};
+
+// Two digits.
+fn put_byte(out: &mut [u8], at: usize, x: u32)
+    requires { ⌜ at + 2 ≤ length (now out) ⌝ }
+    ensures { λ _. ⌜ now (out .exit) ≡ written (now (out .entry)) at (digits 2 x) ⌝ }
+{
+    out[at] = last_digit(x / 16);
+    out[at + 1] = last_digit(x);
+}
+
+// Eight digits.
+fn put_word(out: &mut [u8], at: usize, x: u32)
+    requires { ⌜ at + 8 ≤ length (now out) ⌝ }
+    ensures { λ _. ⌜ now (out .exit) ≡ written (now (out .entry)) at (digits 8 x) ⌝ }
+{
+    put_byte(out, at, x / 0x100_0000);
+    put_byte(out, at + 2, x / 0x1_0000);
+    put_byte(out, at + 4, x / 0x100);
+    put_byte(out, at + 6, x);
+}
+
+// The 82 line of a refusal and a line's number.
+pub fn put_refused(out: &mut [u8], at: usize, refusal: u32, line: u32) -> usize
+    ensures { λ r. ⌜ output (now (out .exit)) r ≡ printed (refusedLine refusal line) (output (now (out .entry)) at) ⌝ }
+{
+    if at <= out.len() {
+        if 13 <= out.len() - at {
+            put_byte(out, at, 0x82);
+            put_byte(out, at + 2, refusal);
+            put_word(out, at + 4, line);
+            out[at + 12] = b'\n';
+            return at + 13;
+        }
+        return at;
+    }
+    at
+}
+
+// The 83 line of a run.
+pub fn put_ran(
+    out: &mut [u8],
+    at: usize,
+    steps: u32,
+    stop: u32,
+    code: u32,
+    pc: u32,
+    psw: u32,
+) -> usize
+    ensures { λ r. ⌜ output (now (out .exit)) r ≡ printed (ranLine steps stop code pc psw) (output (now (out .entry)) at) ⌝ }
+{
+    if at <= out.len() {
+        if 31 <= out.len() - at {
+            put_byte(out, at, 0x83);
+            put_word(out, at + 2, steps);
+            put_byte(out, at + 10, stop);
+            put_byte(out, at + 12, code);
+            put_word(out, at + 14, pc);
+            put_word(out, at + 22, psw);
+            out[at + 30] = b'\n';
+            return at + 31;
+        }
+        return at;
+    }
+    at
+}

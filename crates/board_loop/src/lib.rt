@@ -1,0 +1,48 @@
+// The loop of a board program: lines from standard input, answers to standard output. It reads, makes an exchange of
+// the conversation (`board_conversation::exchanges`), and writes what that answered; no contract can say what is read or written.
+mod channels;
+mod waiting;
+
+use crate::channels::Input;
+use crate::channels::receive;
+use crate::channels::send;
+use board_conversation::exchanges::begin;
+use board_conversation::exchanges::converse;
+use board_conversation::exchanges::finish;
+use machine::record::start_bank;
+use machine::record::start_cache;
+
+const BLOCK: usize = 32768;
+
+// No line prints more than 13 bytes for each of its own, its newline among them.
+const ROOM: usize = 13 * BLOCK;
+
+// A conversation with the board whose memory is lent, until its input ends or a read or a write fails.
+pub fn serve(memory: &mut [u8]) {
+    let mut block_space = [0u8; BLOCK];
+    let mut out_space = [0u8; ROOM];
+    let block: &mut [u8] = &mut block_space;
+    let out: &mut [u8] = &mut out_space;
+    let mut quads = start_cache();
+    let mut bank = start_bank();
+    let mut s = begin();
+    // A proved loop has to end: it counts down from a number that no run uses up.
+    let mut turns = u64::MAX;
+    while 0 < turns {
+        match receive(s, block) {
+            Input::Filled(end) => {
+                s = converse(s, end, block, memory, &mut quads, &mut bank, out);
+            }
+            Input::RunResult => {
+                let place = finish(s, block, memory, &mut quads, &mut bank, out);
+                send(out, place);
+                return;
+            }
+            Input::Failed => return,
+        }
+        if !send(out, s.place) {
+            return;
+        }
+        turns = turns - 1;
+    }
+}

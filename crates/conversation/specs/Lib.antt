@@ -1,4 +1,0 @@
-pub mod Conversation
-pub mod Code
-pub mod Blocks
-pub mod Stream

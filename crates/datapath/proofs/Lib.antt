@@ -1,0 +1,5 @@
+pub mod DataLaws
+pub mod BindLaws
+pub mod PartLaws
+pub mod TextLaws
+pub mod OperandLaws

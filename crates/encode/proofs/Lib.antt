@@ -1,0 +1,6 @@
+mod ShortLaws
+mod ValueLaws
+mod OperandLaws
+mod MonadicLaws
+mod WideLaws
+mod EncodeLaws

@@ -1,0 +1,51 @@
+use borrow.Author.Needs.{needs}
+use Rattle.encode_tables.proofs.ListLaws.{monadic-line}
+use Rattle.encode_tables.proofs.rows.list_monadic.Statement.{statement}
+use Rattle.encode_tables.proofs.rows.list_monadic.Tie as tie
+
+pub list-monadic-spec : {M : Type 1} → statement M
+list-monadic-spec =
+    tie.close
+    (tie.spec
+    (λ c. search needs)
+    (λ c κs. search needs)
+    (λ c. search needs)
+    (λ c κs. search needs)
+    (λ c. search needs)
+    (λ c κs. search needs)
+    (λ c. search needs)
+    (λ c κs. search needs)
+    (λ c. search needs)
+    (λ c κs. search needs)
+    (λ c. search needs)
+    (λ c κs. search needs)
+    (λ c. search needs)
+    (λ c κs. search needs)
+    (λ c. search needs)
+    (λ c κs. search needs)
+    (λ c. search needs)
+    (λ c κs. search needs)
+    (λ c. search needs)
+    (λ c κs. search needs)
+    (λ c. search needs)
+    (λ c κs. search needs)
+    (λ c. search needs)
+    (λ c κs. search needs)
+    (λ c. search needs)
+    (λ c κs. search needs)
+    (λ c. search needs)
+    (λ c κs. search needs)
+    (λ c. search (needs, monadic-line))
+    (λ c. search (needs, monadic-line))
+    (λ c. search (needs, monadic-line))
+    (λ c. search (needs, monadic-line))
+    (λ c. search (needs, monadic-line))
+    (λ c. search (needs, monadic-line))
+    (λ c. search (needs, monadic-line))
+    (λ c. search (needs, monadic-line))
+    (λ c. search (needs, monadic-line))
+    (λ c. search (needs, monadic-line))
+    (λ c. search (needs, monadic-line))
+    (λ c. search (needs, monadic-line))
+    (λ c. search (needs, monadic-line))
+    (λ c. search (needs, monadic-line)))

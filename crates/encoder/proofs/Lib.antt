@@ -1,6 +1,0 @@
-mod ShortExits
-mod ValueExits
-mod OperandExits
-mod MonadicExits
-mod WideExits
-mod EncodeExits

@@ -1,0 +1,5 @@
+pub mod MonadicLaws
+pub mod NiladicLaws
+pub mod ExecuteLaws
+pub mod ActLaws
+pub mod AttemptLaws

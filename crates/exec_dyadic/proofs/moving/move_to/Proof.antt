@@ -1,0 +1,41 @@
+use Rattle.exec_spec.specs.Operands.{writePlace}
+use Rattle.exec_operands.proofs.RestLaws.{part-stops, part-goes}
+use Rattle.exec_operands.specs.Code.{placeAt}
+use mathlib.Core.Path.{_∙_}
+use Rattle.access_spec.specs.Journal.{journaled}
+use borrow.Author.Needs.{needs}
+use Rattle.exec_dyadic.proofs.moving.move_to.Statement.{statement}
+use Rattle.exec_dyadic.proofs.moving.move_to.Tie as tie
+
+locate-at-requires : tie.Need-locate-at-requires
+locate-at-requires c κs = search needs
+
+low32-requires : tie.Need-low32-requires
+low32-requires c κs = search needs
+
+write-at-requires : tie.Need-write-at-requires
+write-at-requires c κs = search needs
+
+same-length : tie.Need-same-length
+same-length c = search needs
+
+returns : tie.Need-returns
+returns c = part-stops (placeAt (c .before .before .before .before .before .before .before .before .before .args .d)) (c .before .before .before .before .before .before .before .before .before .args .r .now) _ (c .before .before .before .before .before .before .before .before .before .args .q .now) _ _ (journaled (c .before .before .before .before .before .before .before .before .before .args .m .now) (c .before .before .before .before .before .before .before .before .before .args .journal .now)) _ (c .before .before .before .locate-at .ensures .0) (λ k p. writePlace k p (c .before .before .before .before .before .before .before .before .before .args .v)) (c .if1 .taken)
+
+same-length-2 : tie.Need-same-length-2
+same-length-2 c = c .before .before .write-at .kept .0 ∙ c .before .before .before .before .before .before .before .before .before .before .before .locate-at .kept .0
+
+returns-2 : tie.Need-returns-2
+returns-2 c = part-goes (placeAt (c .before .before .before .before .before .before .before .before .before .before .before .before .before .before .before .before .before .args .d)) (c .before .before .before .before .before .before .before .before .before .before .before .before .before .before .before .before .before .args .r .now) _ (c .before .before .before .before .before .before .before .before .before .before .before .before .before .before .before .before .before .args .q .now) _ _ (journaled (c .before .before .before .before .before .before .before .before .before .before .before .before .before .before .before .before .before .args .m .now) (c .before .before .before .before .before .before .before .before .before .before .before .before .before .before .before .before .before .args .journal .now)) _ (c .before .before .before .before .before .before .before .before .before .before .before .locate-at .ensures .0) (λ k p. writePlace k p (c .before .before .before .before .before .before .before .before .before .before .before .before .before .before .before .before .before .args .v)) (c .before .before .before .before .before .before .before .before .if1 .left) (c .before .before .before .before .before .before .before .before .before .before .before .locate-at .ensures .1 (c .before .before .before .before .before .before .before .before .if1 .left)) _ (c .before .before .before .low32 .ensures) _ (c .before .before .write-at .ensures)
+
+pub move-to-spec : {M : Type 1} → statement M
+move-to-spec =
+    tie.close
+    (tie.spec
+    locate-at-requires
+    low32-requires
+    write-at-requires
+    same-length
+    returns
+    same-length-2
+    returns-2)

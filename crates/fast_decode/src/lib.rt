@@ -1,0 +1,18 @@
+// What a text does, straight from the tables: the decoder's answer without its encoding, for the instructions that are
+// performed without journal and copies. A plan is made at one place and performed at one place, which keeps it out of
+// memory.
+use exec_spec::Monadic;
+use exec_spec::Task;
+use isa::Mode;
+use isa::MonadicMode;
+use isa::Wide;
+
+pub mod short;
+pub mod wide;
+
+// Two operands that are no registers, one operand, or another instruction or none.
+pub enum Plan {
+    Two(Wide, Task, Mode, u32, Mode, u32),
+    One(Monadic, MonadicMode, u32),
+    Other,
+}

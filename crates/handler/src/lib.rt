@@ -1,5 +1,0 @@
-// What memory and journal do with an access: alignment, translation, recording, and the touch, each change noted.
-pub mod accesses;
-pub mod journal;
-pub mod quads;
-pub mod quiet;

@@ -1,1 +1,0 @@
-// No code: programs of accesses, what a world does with them, and the journal that undoes them.

@@ -1,3 +1,0 @@
-mod Every
-pub mod Rows
-pub mod Short

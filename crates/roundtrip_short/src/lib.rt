@@ -1,1 +1,0 @@
-// No code: the theorems of proofs/ on one-parcel instructions.

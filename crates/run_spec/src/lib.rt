@@ -1,0 +1,8 @@
+// Runs: steps under a budget, with their stops and refusals. No code: the type is what the code of a run answers.
+
+// Steps done, the stop and its code.
+pub struct Stopped {
+    pub steps: u32,
+    pub stop: u32,
+    pub code: u32,
+}

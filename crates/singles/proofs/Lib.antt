@@ -1,2 +1,0 @@
-pub mod MonadicLaws
-pub mod NiladicLaws
