@@ -1,4 +1,5 @@
 // Places of accesses whose walk neither faults nor sets a bit; 2^32 where it does.
+use crate::NOWHERE;
 use mmu::AccessKind;
 use mmu::Walk;
 use mmu::recording::is_fresh;
@@ -15,11 +16,11 @@ fn settled(m: &[u8], k: AccessKind, w: Walk) -> u64
     ensures { λ x. ⌜ x ≡ settledOf k (now (m .entry)) w ⌝ }
 {
     match w {
-        Walk::Fault(_) => 0x1_0000_0000,
+        Walk::Fault(_) => NOWHERE,
         Walk::Direct(pa) => pa as u64,
         Walk::Paged(p, pa) => {
             if is_fresh(m, k, p) {
-                0x1_0000_0000
+                NOWHERE
             } else {
                 pa as u64
             }

@@ -1,4 +1,5 @@
 // The journal of a step, in one lent array: the number of entries, then each as its place times 2^32 and the word of before.
+use access_spec::JOURNAL_ROOM;
 use access_spec::Journal;
 use memory::answers::EXCEPTION;
 use memory::loads::load_word;
@@ -10,16 +11,21 @@ ghost use Rattle.access_spec.specs.Journal.{journaled, count, room, note as not
 ghost use Rattle.access_spec.specs.Contracts.{exitWorld};
 ghost use Rattle.mmu.specs.Walk.{recorded};
 
+const ROOM: u64 = JOURNAL_ROOM as u64;
+
+// An entry is its place times this, and the word of before.
+const PLACE: u64 = 0x1_0000_0000;
+
 // The word at a, as it is.
 pub fn note(m: &[u8], journal: &mut Journal, a: u32)
     ensures { λ r. ⌜ now (journal .exit) ≡ noteOf a (now (m .entry)) (now (journal .entry)) ⌝ }
 {
     let n = journal[0];
-    if n < 200 {
+    if n < ROOM {
         let w = load_word(m, a);
         if w < EXCEPTION {
             let k = n as usize;
-            journal[k + 1] = a as u64 * 0x1_0000_0000 + w;
+            journal[k + 1] = a as u64 * PLACE + w;
             journal[0] = n + 1;
         }
     }
@@ -55,8 +61,8 @@ fn put_byte(m: &mut [u8], i: usize, b: u8)
 fn restore(m: &mut [u8], e: u64)
     ensures { λ r. ⌜ now (m .exit) ≡ restored (now (m .entry)) e ⌝ }
 {
-    let a = (e / 0x1_0000_0000) as usize;
-    let w = (e % 0x1_0000_0000) as u32;
+    let a = (e / PLACE) as usize;
+    let w = (e % PLACE) as u32;
     put_byte(m, a, (w / 256 / 256 / 256 % 256) as u8);
     put_byte(m, a + 1, (w / 256 / 256 % 256) as u8);
     put_byte(m, a + 2, (w / 256 % 256) as u8);
@@ -68,7 +74,7 @@ fn entries(journal: &Journal) -> usize
     ensures { λ r. ⌜ r ≡ min (count (now (journal .entry))) room ⌝ }
 {
     let n = journal[0];
-    if n < 200 { n as usize } else { 200 }
+    if n < ROOM { n as usize } else { JOURNAL_ROOM }
 }
 
 // All entries put back, the last one first.

@@ -3,3 +3,6 @@ pub mod accesses;
 pub mod effect_free;
 pub mod journal;
 pub mod quads;
+
+// The answer where there is no place: no address has this number.
+pub const NOWHERE: u64 = 0x1_0000_0000;

@@ -1,4 +1,5 @@
 // The place of a quad-word whose four words one walk finds; 2^32 where each goes by a walk of its own.
+use crate::NOWHERE;
 use mmu::AccessKind;
 use mmu::Walk;
 use mmu::entries::segment_place;
@@ -34,13 +35,13 @@ fn shared(m: &[u8], stb: u32, k: AccessKind, a: u32, w: Walk) -> u64
     ensures { λ x. ⌜ x ≡ sharedOf stb k a (now (m .entry)) w ⌝ }
 {
     match w {
-        Walk::Fault(_) => 0x1_0000_0000,
-        Walk::Direct(_) => 0x1_0000_0000,
+        Walk::Fault(_) => NOWHERE,
+        Walk::Direct(_) => NOWHERE,
         Walk::Paged(p, pa) => {
             if shares_walk(m, stb, k, a, p, pa) {
                 pa as u64
             } else {
-                0x1_0000_0000
+                NOWHERE
             }
         }
     }

@@ -1,6 +1,7 @@
 // The text of an instruction at PC: one to six parcels, each fetched and translated by itself.
 use crate::data::fetch_parcel;
 use access_spec::Journal;
+use isa::CPU_PREFIX;
 use isa::Text;
 use machine::Bank;
 use machine::places::PC;
@@ -164,7 +165,7 @@ fn prefixed(p: u16, o: OperandParcels) -> Text
     if form < 2 {
         return Text {
             count: 2,
-            p0: 0x2C00,
+            p0: CPU_PREFIX,
             p1: p,
             p2: 0,
             p3: 0,
@@ -175,7 +176,7 @@ fn prefixed(p: u16, o: OperandParcels) -> Text
     if form < 3 {
         return Text {
             count: 4,
-            p0: 0x2C00,
+            p0: CPU_PREFIX,
             p1: p,
             p2: high_half(x),
             p3: low_half(x),
@@ -185,7 +186,7 @@ fn prefixed(p: u16, o: OperandParcels) -> Text
     }
     Text {
         count: 6,
-        p0: 0x2C00,
+        p0: CPU_PREFIX,
         p1: p,
         p2: high_half(x),
         p3: low_half(x),
@@ -235,7 +236,7 @@ pub fn fetch_text(m: &mut [u8], journal: &mut Journal, r: &Bank) -> Fetched
         };
     }
     let p = parcel(x);
-    if p == 0x2C00 {
+    if p == CPU_PREFIX {
         fetch_prefixed(m, journal, r)
     } else {
         fetch_after(m, journal, r, p)

@@ -1,10 +1,12 @@
 // Filling: quad-words of memory to the stack cache, from MSP up, in a regime given by its numbers.
+use crate::QUAD_WORDS;
 use access::accesses::read;
 use access::quads::fill_place;
 use access_spec::Journal;
 use datapath::faults::set_fault;
 use machine::Bank;
 use machine::Quads;
+use machine::STACK_CACHE_BYTES;
 use machine::places::MSP;
 use machine::places::SP;
 use memory::answers::EXCEPTION;
@@ -167,7 +169,7 @@ fn fill_quad(
 fn may_fill(r: &Bank, target: u32) -> bool
     ensures { λ x. ⌜ x ≡ mayFill target (now (r .entry)) ⌝ }
 {
-    (r[MSP] < target) & (minus(r[MSP], r[SP]) < 256)
+    (r[MSP] < target) & (minus(r[MSP], r[SP]) < STACK_CACHE_BYTES)
 }
 
 // At most the sixteen quad-words of the cache, left at the first fault with the last MSP reached.
@@ -184,7 +186,7 @@ pub fn fill(
     ensures { λ x. ⌜ Ends x m journal q r (λ c. fillOf (regimeFor stb user translated) target 16 c) ⌝ }
 {
     let mut x: u64 = 0;
-    let mut n: u32 = 16;
+    let mut n: u32 = QUAD_WORDS;
     while 0 < n {
         if may_fill(r, target) {
             let a = r[MSP];

@@ -1,10 +1,12 @@
 // Flushing: quad-words of the stack cache to memory, from MSP down.
+use crate::QUAD_WORDS;
 use access::accesses::store_noted;
 use access::quads::flush_place;
 use access_spec::Journal;
 use datapath::faults::set_fault;
 use machine::Bank;
 use machine::Quads;
+use machine::STACK_CACHE_BYTES;
 use machine::cache::cache_word;
 use machine::places::MSP;
 use machine::places::SP;
@@ -145,7 +147,7 @@ fn flush_quad(m: &mut [u8], journal: &mut Journal, q: &Quads, r: &mut Bank, a: u
 fn may_flush(r: &Bank, all: bool, target: u32) -> bool
     ensures { λ x. ⌜ x ≡ mayFlush all target (now (r .entry)) ⌝ }
 {
-    (r[MSP] != r[SP]) & (all | (256 < minus(r[MSP], target)))
+    (r[MSP] != r[SP]) & (all | (STACK_CACHE_BYTES < minus(r[MSP], target)))
 }
 
 // At most the sixteen quad-words of the cache, left at the first fault with the last MSP reached.
@@ -160,7 +162,7 @@ pub fn flush(
     ensures { λ x. ⌜ Ends x m journal q r (λ c. flushOf all target 16 c) ⌝ }
 {
     let mut x: u64 = 0;
-    let mut n: u32 = 16;
+    let mut n: u32 = QUAD_WORDS;
     while 0 < n {
         if may_flush(r, all, target) {
             let a = minus(r[MSP], 16);

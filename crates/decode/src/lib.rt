@@ -8,6 +8,7 @@ pub mod wide;
 
 use crate::short::decode_short;
 use crate::wide::decode_wide;
+use isa::CPU_PREFIX;
 use isa::Decoded;
 use isa::Text;
 use word::fields::form_bits;
@@ -21,7 +22,6 @@ ghost use Rattle.decode.specs.Forms.{restOf, shortRest, decodeRest};
 const CUT_TEXT: u32 = 6;
 
 // The CPU prefix: opcode 0xB, subcode 0.
-const PREFIX: u16 = 0x2C00;
 
 // How many parcels stand after the first.
 fn after_first(count: usize) -> usize
@@ -80,7 +80,7 @@ pub fn decode_text(t: Text) -> Decoded
     if t.count < 1 {
         Decoded::Refused(CUT_TEXT)
     } else {
-        let prefix = t.p0 == PREFIX;
+        let prefix = t.p0 == CPU_PREFIX;
         decode_rest(prefix, without_prefix(prefix, t))
     }
 }

@@ -1,4 +1,5 @@
 // Texts of one, three and five parcels, the CPU prefix before the longer ones if there is one.
+use isa::CPU_PREFIX;
 use isa::Encoded;
 use isa::Text;
 ghost use mathlib.Core.Path.{_≡_};
@@ -35,7 +36,7 @@ pub fn three_parcels(prefix: bool, p: u16, a: u16, b: u16) -> Text
     if prefix {
         Text {
             count: 4,
-            p0: 0x2C00,
+            p0: CPU_PREFIX,
             p1: p,
             p2: a,
             p3: b,
@@ -61,7 +62,7 @@ pub fn five_parcels(prefix: bool, p: u16, a: u16, b: u16, c: u16, d: u16) -> Tex
     if prefix {
         Text {
             count: 6,
-            p0: 0x2C00,
+            p0: CPU_PREFIX,
             p1: p,
             p2: a,
             p3: b,

@@ -16,6 +16,8 @@ use memory::answers::EXCEPTION;
 use memory::answers::low32;
 use memory::answers::raised;
 use memory::exceptions::ILLEGAL_INSTRUCTION;
+use run_spec::KCALL_CODE;
+use run_spec::UNIMPLEMENTED_CODE;
 use step_pending::tracing::traced;
 ghost use mathlib.Core.Path.{_≡_};
 ghost use Prim.Native.Nat.{ℕ, _<_};
@@ -80,7 +82,7 @@ fn act_on(
     let class = class_of(a);
     let stops = confined & is_kcall(a);
     if stops {
-        return 0x20;
+        return KCALL_CODE;
     }
     let x = execute(m, journal, q, r, n, a);
     if EXCEPTION <= x {
@@ -101,7 +103,7 @@ fn act_unimplemented(
     ensures { λ x. ⌜ Attempts x m journal q r (λ c. actOf confined c (toVector vector)) ⌝ }
 {
     if confined {
-        return 0x21;
+        return UNIMPLEMENTED_CODE;
     }
     let x = unimplemented_sequence(m, journal, q, r, vector);
     if EXCEPTION <= x {

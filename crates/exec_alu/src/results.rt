@@ -20,12 +20,15 @@ ghost use Rattle.exec_spec.specs.declared.Operation.the-variants.{Add, Sub, Mul
 ghost use Rattle.exec_spec.specs.Alu.{stays, gets, flagged, operate as operateOf};
 ghost use Rattle.exec_alu.specs.Results.{flagFrom, result, unpacked, laidOver};
 
+// The codes of the flags stand above the value.
+const FLAGS: u64 = 0x1_0000_0000;
+
 // A value with the codes of carry and overflow.
 fn packed(value: u32, carry: u32, overflow: u32) -> u64
     requires { ⌜ (carry < 4) × (overflow < 4) ⌝ }
     ensures { λ r. ⌜ unpacked r ≡ result value (flagFrom carry) (flagFrom overflow) ⌝ }
 {
-    value as u64 + (carry + overflow * 4) as u64 * 0x1_0000_0000
+    value as u64 + (carry + overflow * 4) as u64 * FLAGS
 }
 
 // A value that sets both flags.

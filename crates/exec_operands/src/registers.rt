@@ -1,5 +1,6 @@
 // Registers as operands, by their places in the bank.
 use machine::Bank;
+use machine::places::BANK_WORDS;
 ghost use mathlib.Core.Path.{_≡_};
 ghost use lib.ListN.{length};
 ghost use Rattle.machine.specs.Registers.{word};
@@ -15,7 +16,7 @@ fn bank_size(b: Bank) -> u32
 pub fn word_at(r: &Bank, k: u32) -> u32
     ensures { λ x. ⌜ x ≡ word (now (r .entry)) k ⌝ }
 {
-    if k < 17 {
+    if k < BANK_WORDS {
         let i = k as usize;
         r[i]
     } else {

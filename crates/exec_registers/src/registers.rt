@@ -1,9 +1,13 @@
 // Registers written under a CPU prefix (1.7, Table 1-24).
 use machine::Bank;
+use machine::places::BANK_WORDS;
+use machine::places::ID_PLACE;
 use machine::places::ISP;
+use machine::places::ISP_PLACE;
 use machine::places::MSP;
 use machine::places::SHAD;
 use machine::places::SP;
+use machine::places::SP_PLACE;
 use machine::registers::unreserved;
 use machine::status::csp;
 ghost use mathlib.Core.Path.{_≡_};
@@ -24,7 +28,7 @@ fn bank_size(b: Bank) -> u32
 pub fn put(b: &mut Bank, k: u32, v: u32)
     ensures { λ r. ⌜ Becomes b (λ c. with c k v) ⌝ }
 {
-    if k < 17 {
+    if k < BANK_WORDS {
         let i = k as usize;
         b[i] = v;
     } else {
@@ -48,26 +52,26 @@ fn write_sp(b: &mut Bank, v: u32)
 {
     b[SP] = v;
     b[MSP] = v;
-    shadowed(b, 8, v);
+    shadowed(b, SP_PLACE, v);
 }
 
 fn write_isp(b: &mut Bank, v: u32)
     ensures { λ r. ⌜ Becomes b (λ c. shadowedOf (with c isp v) isp v) ⌝ }
 {
     b[ISP] = v;
-    shadowed(b, 3, v);
+    shadowed(b, ISP_PLACE, v);
 }
 
 // The register at place k, without its reserved bits: ID takes none.
 pub fn write_register(b: &mut Bank, k: u32, v: u32)
     ensures { λ r. ⌜ Becomes b (λ c. writeRegister c k v) ⌝ }
 {
-    if k != 2 {
-        if k == 8 {
-            write_sp(b, unreserved(8, v));
+    if k != ID_PLACE {
+        if k == SP_PLACE {
+            write_sp(b, unreserved(SP_PLACE, v));
         } else {
-            if k == 3 {
-                write_isp(b, unreserved(3, v));
+            if k == ISP_PLACE {
+                write_isp(b, unreserved(ISP_PLACE, v));
             } else {
                 put(b, k, unreserved(k, v));
             }

@@ -11,6 +11,7 @@ use exec_registers::status::with_guard;
 use isa::MonadicMode;
 use machine::Bank;
 use machine::Quads;
+use machine::STACK_CACHE_BYTES;
 use machine::places::MSP;
 use machine::places::STB;
 use machine::status::cache_on;
@@ -66,8 +67,8 @@ fn enter_empty(m: &mut [u8], journal: &mut Journal, q: &Quads, r: &mut Bank, tar
 fn clipped(old: u32, msp: u32, target: u32) -> u32
     ensures { λ x. ⌜ x ≡ clippedOf old msp target ⌝ }
 {
-    if 256 < minus(old, target) {
-        let top = plus(target, 256);
+    if STACK_CACHE_BYTES < minus(old, target) {
+        let top = plus(target, STACK_CACHE_BYTES);
         if top < msp { top } else { msp }
     } else {
         msp

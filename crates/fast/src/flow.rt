@@ -9,10 +9,12 @@ use exec_registers::flow::stack_address;
 use exec_registers::flow::with_csp;
 use exec_registers::status::with_guard;
 use exec_spec::Monadic;
+use fast_dyadic::NOT_TAKEN;
 use fast_dyadic::accesses::fast_read;
 use isa::MonadicMode;
 use machine::Bank;
 use machine::Quads;
+use machine::STACK_CACHE_BYTES;
 use machine::bits::FLAG;
 use machine::cache::cache_write;
 use machine::places::MSP;
@@ -22,6 +24,7 @@ use machine::places::SP;
 use machine::registers::stack_held;
 use machine::status::cache_on;
 use machine::status::cached;
+use memory::answers::EXCEPTION;
 use memory::answers::low32;
 use word::Width;
 use word::fields::bit;
@@ -106,7 +109,7 @@ fn return_from(m: &[u8], q: &Quads, r: &mut Bank, v: u32) -> bool
     let kept = *r;
     let a = stack_address(r, v);
     let x = fast_read(m, q, r, Width::Word, a);
-    if x < 0x1_0000_0000 {
+    if x < NOT_TAKEN {
         released(r, v);
         jumped(r, low32(x));
         if stack_held(r[SP], r[MSP]) {
@@ -159,10 +162,10 @@ fn enter(m: &[u8], r: &mut Bank, mode: MonadicMode, v: u32, n: u32) -> bool
         return false;
     }
     let a = stack_address(r, v) / 16 * 16;
-    if 256 < minus(r[MSP], a) {
+    if STACK_CACHE_BYTES < minus(r[MSP], a) {
         return false;
     }
-    if 0x1_0000_0000 <= check_store(m, r, a) {
+    if EXCEPTION <= check_store(m, r, a) {
         return false;
     }
     let kept = *r;

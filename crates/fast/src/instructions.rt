@@ -4,8 +4,10 @@ use crate::texts::length_at;
 use crate::texts::parcel;
 use crate::texts::plan_at;
 use crate::texts::text_place;
+use access::NOWHERE;
 use fast_decode::Plan;
 use fast_dyadic::two::fast_two;
+use isa::CPU_PREFIX;
 use machine::Bank;
 use machine::Quads;
 use machine::places::PC;
@@ -31,12 +33,12 @@ pub(crate) fn fast_attempt(m: &mut [u8], q: &mut Quads, r: &mut Bank) -> bool
 {
     let pc = r[PC];
     let x = text_place(m, r, pc);
-    if 0x1_0000_0000 <= x {
+    if NOWHERE <= x {
         return false;
     }
     let i = x as usize;
     let p = parcel(m, i);
-    if p == 0x2C00 {
+    if p == CPU_PREFIX {
         return false;
     }
     let plan = plan_at(m, i, p);

@@ -1,4 +1,5 @@
 // The text at PC, by one walk where that does for all its parcels and sets no bit.
+use access::NOWHERE;
 use access::effect_free::fetch_place;
 use fast_decode::Plan;
 use fast_decode::short::plan_short;
@@ -24,17 +25,17 @@ pub(crate) fn text_place(m: &[u8], r: &Bank, a: u32) -> u64
         × (a % 2 ≡ 0) × (a % 0x1000 + 10 ≤ 0x1000) × (a < 2 ^ 32) × (x + 10 ≤ length (now (m .entry)))) ⌝ }
 {
     if a % 2 != 0 {
-        return 0x1_0000_0000;
+        return NOWHERE;
     }
     if 0xFF6 < a % 0x1000 {
-        return 0x1_0000_0000;
+        return NOWHERE;
     }
     let x = fetch_place(m, r[STB], is_user(r), is_virtual(r), a);
-    if 0x1_0000_0000 <= x {
+    if NOWHERE <= x {
         return x;
     }
     if m.len() < x as usize + 10 {
-        return 0x1_0000_0000;
+        return NOWHERE;
     }
     x
 }

@@ -1,4 +1,6 @@
 // Data accesses that neither fault nor set a bit.
+use crate::NOT_TAKEN;
+use access::NOWHERE;
 use access::accesses::aligned;
 use access::effect_free::read_place;
 use access::effect_free::write_place;
@@ -11,6 +13,7 @@ use machine::status::cached;
 use machine::status::is_little;
 use machine::status::is_user;
 use machine::status::is_virtual;
+use memory::answers::EXCEPTION;
 use memory::answers::good;
 use memory::answers::low32;
 use memory::loads::load;
@@ -32,10 +35,10 @@ fn memory_read(m: &[u8], r: &Bank, w: Width, p: u32) -> u64
     ensures { λ x. ⌜ (x < 2 ^ 32 → access (reads (regime (now (r .entry))) w p) (now (m .entry)) ≡ response (good x) (now (m .entry))) ⌝ }
 {
     if !aligned(w, p) {
-        return 0x1_0000_0000;
+        return NOT_TAKEN;
     }
     let x = read_place(m, r[STB], is_user(r), is_virtual(r), p);
-    if 0x1_0000_0000 <= x {
+    if NOWHERE <= x {
         return x;
     }
     load(m, w, low32(x))
@@ -50,7 +53,7 @@ pub fn fast_read(m: &[u8], q: &Quads, r: &Bank, w: Width, a: u32) -> u64
         return memory_read(m, r, w, p);
     }
     if !aligned(w, a) {
-        return 0x1_0000_0000;
+        return NOT_TAKEN;
     }
     good(cache_read(w, q, p))
 }
@@ -63,11 +66,11 @@ fn memory_store(m: &mut [u8], r: &Bank, w: Width, p: u32, v: u32) -> bool
         return false;
     }
     let x = write_place(m, r[STB], is_user(r), is_virtual(r), p);
-    if 0x1_0000_0000 <= x {
+    if NOWHERE <= x {
         return false;
     }
     let y = store(m, w, low32(x), v);
-    if 0x1_0000_0000 <= y {
+    if EXCEPTION <= y {
         return false;
     }
     true

@@ -1,8 +1,10 @@
 // What is left of an instruction of two operands once its source is read, the destination anywhere in memory.
+use crate::NOT_TAKEN;
 use crate::accesses::fast_store;
 use crate::places::fast_address;
 use crate::places::fast_put;
 use crate::places::fast_value;
+use access::NOWHERE;
 use exec_alu::operations::divides;
 use exec_alu::operations::operate;
 use exec_alu::operations::related;
@@ -45,7 +47,7 @@ fn compute_at(
         return false;
     }
     let y = fast_value(m, q, r, mode, d, a);
-    if 0x1_0000_0000 <= y {
+    if NOT_TAKEN <= y {
         return false;
     }
     let z = operate(op, low32(y), x);
@@ -74,7 +76,7 @@ fn accumulate_at(
         return false;
     }
     let y = fast_value(m, q, r, mode, d, a);
-    if 0x1_0000_0000 <= y {
+    if NOT_TAKEN <= y {
         return false;
     }
     let z = operate(op, low32(y), x);
@@ -101,7 +103,7 @@ fn compare_at(
     ensures { λ z. ⌜ IfElse z (Gives m q r (λ c. compareAt c relation (generalAt (modeKind mode) mode d a) x) × StackAsBefore q r) (unchanged r) ⌝ }
 {
     let y = fast_value(m, q, r, mode, d, a);
-    if 0x1_0000_0000 <= y {
+    if NOT_TAKEN <= y {
         return false;
     }
     with_flag(r, related(relation, x, low32(y)));
@@ -122,7 +124,7 @@ pub(crate) fn fast_finish(
     ensures { λ z. ⌜ IfElse z ((isFast t ≡ true) × Gives m q r (λ c. afterSource c wide t (operand.General mode d) x) × StackAsBefore q r) (AllUnchanged m q r) ⌝ }
 {
     let k = fast_address(m, q, r, wide, mode, d);
-    if 0x1_0000_0000 <= k {
+    if NOWHERE <= k {
         return false;
     }
     let a = low32(k);

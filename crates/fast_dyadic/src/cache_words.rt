@@ -1,4 +1,6 @@
 // Words of the stack that the cache holds: no access to memory at all.
+use crate::NOT_TAKEN;
+use access::NOWHERE;
 use exec_alu::operations::divides;
 use exec_alu::operations::operate;
 use exec_alu::operations::related;
@@ -44,7 +46,7 @@ pub(crate) fn cached_address(r: &Bank, v: u32) -> u64
             return a as u64;
         }
     }
-    0x1_0000_0000
+    NOWHERE
 }
 
 pub(crate) fn is_stack_word(m: Mode) -> bool
@@ -79,11 +81,11 @@ pub(crate) fn cached_source(q: &Quads, r: &Bank, m: Mode, v: u32) -> u64
     }
     if is_stack_word(m) {
         let a = cached_address(r, v);
-        if a < 0x1_0000_0000 {
+        if a < NOWHERE {
             return good(cache_read(Width::Word, q, low32(a)));
         }
     }
-    0x1_0000_0000
+    NOT_TAKEN
 }
 
 // ADD and its kind, to the word at a: the result goes there.
@@ -110,7 +112,7 @@ fn cached_accumulate(q: &mut Quads, r: &mut Bank, op: Operation, a: u32, x: u32)
         return false;
     }
     let b = cached_address(r, 4);
-    if 0x1_0000_0000 <= b {
+    if NOWHERE <= b {
         return false;
     }
     let y = cache_read(Width::Word, q, a);

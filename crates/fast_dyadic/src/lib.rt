@@ -5,3 +5,6 @@ mod after_source;
 mod cache_words;
 mod places;
 pub mod two;
+
+// Answers from here on are none: the fast way is not taken.
+pub const NOT_TAKEN: u64 = 0x1_0000_0000;

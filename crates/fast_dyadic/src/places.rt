@@ -1,4 +1,5 @@
 // Operands that are no registers, where no access to them faults or sets a bit.
+use crate::NOT_TAKEN;
 use crate::accesses::fast_read;
 use crate::accesses::fast_store;
 use exec_alu::OperandKind;
@@ -49,7 +50,7 @@ pub(crate) fn fast_value(m: &[u8], q: &Quads, r: &Bank, mode: Mode, v: u32, a: u
         return good(v);
     }
     let x = fast_read(m, q, r, width_of(mode), a);
-    if 0x1_0000_0000 <= x {
+    if NOT_TAKEN <= x {
         return x;
     }
     good(expand(mode, low32(x)))

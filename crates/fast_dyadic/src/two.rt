@@ -1,4 +1,5 @@
 // Instructions of two operands, neither of them a register.
+use crate::NOT_TAKEN;
 use crate::after_source::fast_finish;
 use crate::cache_words::cached_address;
 use crate::cache_words::cached_finish;
@@ -6,6 +7,7 @@ use crate::cache_words::cached_source;
 use crate::cache_words::is_stack_word;
 use crate::places::fast_address;
 use crate::places::fast_value;
+use access::NOWHERE;
 use exec_registers::flow::advance_pc;
 use exec_spec::Task;
 use isa::Mode;
@@ -29,7 +31,7 @@ fn memory_source(m: &[u8], q: &Quads, r: &Bank, wide: Wide, mode: Mode, v: u32) 
     ensures { λ x. ⌜ (x < 2 ^ 32 → GivesReadOnly x m (readOperand (entryCpu q r) wide (operand.General mode v))) ⌝ }
 {
     let k = fast_address(m, q, r, wide, mode, v);
-    if 0x1_0000_0000 <= k {
+    if NOWHERE <= k {
         return k;
     }
     fast_value(m, q, r, mode, v, low32(k))
@@ -40,7 +42,7 @@ fn source(m: &[u8], q: &Quads, r: &Bank, wide: Wide, mode: Mode, v: u32) -> u64
     ensures { λ x. ⌜ (x < 2 ^ 32 → GivesReadOnly x m (readOperand (entryCpu q r) wide (operand.General mode v))) ⌝ }
 {
     let x = cached_source(q, r, mode, v);
-    if x < 0x1_0000_0000 {
+    if x < NOT_TAKEN {
         return x;
     }
     memory_source(m, q, r, wide, mode, v)
@@ -61,7 +63,7 @@ fn finish(
 {
     if is_stack_word(mode) {
         let a = cached_address(r, d);
-        if a < 0x1_0000_0000 {
+        if a < NOWHERE {
             return cached_finish(q, r, t, low32(a), x);
         }
     }
@@ -84,7 +86,7 @@ pub fn fast_two(
     ensures { λ z. ⌜ FastEnds z m q r (λ c. executeNormal c n (twoOperands wide t (operand.General sm s) (operand.General dm d))) ⌝ }
 {
     let x = source(m, q, r, wide, sm, s);
-    if 0x1_0000_0000 <= x {
+    if NOT_TAKEN <= x {
         return false;
     }
     let instructionDone = finish(m, q, r, wide, t, dm, d, low32(x));

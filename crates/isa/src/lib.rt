@@ -309,3 +309,6 @@ pub struct MonadicListed {
     pub subcode: u32,
     pub operand: Single,
 }
+
+// The parcel of CPU, which is a prefix.
+pub const CPU_PREFIX: u16 = 0x2C00;

@@ -2,8 +2,12 @@
 use crate::Bank;
 use crate::Machine;
 use crate::Reading;
+use crate::places::ID_PLACE;
 use crate::places::MSP;
+use crate::places::MSP_PLACE;
+use crate::places::REGISTERS;
 use crate::places::SP;
+use crate::places::SP_PLACE;
 use crate::record::bank;
 use crate::registers::clean;
 use crate::registers::good_bank;
@@ -13,19 +17,22 @@ ghost use Prim.Native.Nat.{_<_};
 ghost use Rattle.machine.specs.Registers.{settable, assigned, setting, setRegister};
 ghost use Rattle.machine.specs.Record.{refusalOf, readingOf};
 
+// The refusal of a register.
+const REGISTER_REFUSED: u32 = 2;
+
 // 0, or refusal 2 where a reserved bit is set or MSP is not where it must be.
 pub fn refusal(m: Machine) -> u32
     ensures { λ r. ⌜ r ≡ refusalOf m ⌝ }
 {
     let b = bank(m);
-    if good_bank(&b) { 0 } else { 2 }
+    if good_bank(&b) { 0 } else { REGISTER_REFUSED }
 }
 
 // Whether the register at place k of the bank takes a word: no reserved bit, and MSP not away from SP.
 fn takes(b: &Bank, k: u32, v: u32) -> bool
     ensures { λ r. ⌜ r ≡ settable (now (b .entry)) k v ⌝ }
 {
-    clean(k, v) & ((k != 4) | stack_held(b[SP], v))
+    clean(k, v) & ((k != MSP_PLACE) | stack_held(b[SP], v))
 }
 
 // The register at place k of the bank set: ID keeps its word, SP sets MSP too.
@@ -33,10 +40,10 @@ fn assign(b: &mut Bank, k: u32, v: u32)
     requires { ⌜ k < 13 ⌝ }
     ensures { λ _. ⌜ now (b .exit) ≡ assigned (now (b .entry)) k v ⌝ }
 {
-    if k == 2 {
+    if k == ID_PLACE {
         return;
     }
-    if k == 8 {
+    if k == SP_PLACE {
         b[SP] = v;
         b[MSP] = v;
         return;
@@ -50,16 +57,16 @@ pub fn set_register(b: &mut Bank, place: u32, value: u32) -> u32
     ensures { λ r. ⌜ setting r (now (b .exit)) ≡ setRegister (now (b .entry)) place value ⌝ }
 {
     if place < 1 {
-        return 2;
+        return REGISTER_REFUSED;
     }
-    if 13 < place {
-        return 2;
+    if REGISTERS < place {
+        return REGISTER_REFUSED;
     }
     if takes(b, place - 1, value) {
         assign(b, place - 1, value);
         return 0;
     }
-    2
+    REGISTER_REFUSED
 }
 
 // The register at a place of Table 1-1, or refusal 2.
@@ -68,13 +75,13 @@ pub fn read_register(b: &Bank, place: u32) -> Reading
 {
     if place < 1 {
         return Reading {
-            refusal: 2,
+            refusal: REGISTER_REFUSED,
             value: 0,
         };
     }
-    if 13 < place {
+    if REGISTERS < place {
         return Reading {
-            refusal: 2,
+            refusal: REGISTER_REFUSED,
             value: 0,
         };
     }

@@ -19,8 +19,10 @@ pub const USER_LITTLE: u32 = 15;
 
 pub const VIRTUAL: u32 = 16;
 
-// Its interrupt priority level: three bits from this one up.
+// Its interrupt priority level: the lowest bit, and how many.
 pub const PRIORITY: u32 = 12;
+
+pub const PRIORITY_BITS: u32 = 3;
 
 // Table 1-2: the bits of CONFIG.
 pub const KERNEL_LITTLE: u32 = 16;
@@ -39,5 +41,7 @@ pub const TIMER2_KERNEL: u32 = 30;
 
 pub const TIMER2_INTERRUPT: u32 = 31;
 
-// Its event that Timer2 counts: five bits from this one up.
+// The event that Timer2 counts: the lowest bit, and how many.
 pub const TIMER2_EVENT: u32 = 25;
+
+pub const TIMER2_EVENT_BITS: u32 = 5;

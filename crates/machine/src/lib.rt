@@ -27,3 +27,6 @@ pub struct Reading {
     pub refusal: u32,
     pub value: u32,
 }
+
+// The bytes that the stack cache holds.
+pub const STACK_CACHE_BYTES: u32 = 256;

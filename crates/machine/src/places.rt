@@ -34,3 +34,16 @@ pub const TIMER1_DUE: usize = 14;
 pub const TIMER2_DUE: usize = 15;
 
 pub const NMI_TAKEN: usize = 16;
+
+// The number of registers, and of all words of a bank; the places that instructions and frames name.
+pub const REGISTERS: u32 = 13;
+
+pub const BANK_WORDS: u32 = 17;
+
+pub const ID_PLACE: u32 = ID as u32;
+
+pub const ISP_PLACE: u32 = ISP as u32;
+
+pub const MSP_PLACE: u32 = MSP as u32;
+
+pub const SP_PLACE: u32 = SP as u32;

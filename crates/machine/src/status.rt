@@ -7,9 +7,11 @@ use crate::bits::USER_LEVEL;
 use crate::bits::USER_LITTLE;
 use crate::bits::VIRTUAL;
 use crate::places::CONFIG;
+use crate::places::ISP_PLACE;
 use crate::places::MSP;
 use crate::places::PSW;
 use crate::places::SP;
+use crate::places::SP_PLACE;
 use word::fields::bit;
 ghost use mathlib.Core.Path.{_≡_};
 ghost use Rattle.machine.specs.Status.{isVirtual, isUser, spCurrent, csp as cspOf, isLittle, cacheOn};
@@ -40,7 +42,7 @@ pub fn sp_current(b: &Bank) -> bool
 pub fn csp(b: &Bank) -> u32
     ensures { λ r. ⌜ r ≡ cspOf (now (b .entry)) ⌝ }
 {
-    if sp_current(b) { 8 } else { 3 }
+    if sp_current(b) { SP_PLACE } else { ISP_PLACE }
 }
 
 // Whether data is little-endian at the level of the moment.

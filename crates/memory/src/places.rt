@@ -21,9 +21,14 @@ pub fn place(little: bool, w: Width, a: u32) -> u32
     if little { flip(w, a) } else { a }
 }
 
+// The bytes of a page, and of the largest memory.
+const PAGE: usize = 4096;
+
+const MOST: usize = 4096 * PAGE;
+
 // Whether n bytes are from 1 to 4,096 whole pages.
 pub fn whole_pages(n: usize) -> bool
     ensures { λ r. ⌜ r ≡ wholePages n ⌝ }
 {
-    (n % 4096 == 0) & (4096 <= n) & (n <= 4096 * 4096)
+    (n % PAGE == 0) & (PAGE <= n) & (n <= MOST)
 }

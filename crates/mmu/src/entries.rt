@@ -1,5 +1,10 @@
 // The fields of table entries (Tables 2-1 to 2-3), and what an entry permits.
 use crate::AccessKind;
+use crate::USER;
+use crate::WRITABLE;
+use memory::exceptions::FETCH_FAULT;
+use memory::exceptions::READ_FAULT;
+use memory::exceptions::WRITE_FAULT;
 use word::fields::bit;
 use word::fields::field;
 use word::fields::placed;
@@ -11,9 +16,9 @@ pub fn fault_of(k: AccessKind) -> u32
     ensures { λ r. ⌜ r ≡ faultOf k ⌝ }
 {
     match k {
-        AccessKind::Fetch => 0x7,
-        AccessKind::Read => 0x8,
-        AccessKind::Write => 0x9,
+        AccessKind::Fetch => FETCH_FAULT,
+        AccessKind::Read => READ_FAULT,
+        AccessKind::Write => WRITE_FAULT,
     }
 }
 
@@ -45,5 +50,5 @@ pub fn page_place(entry: u32, va: u32) -> u32
 pub fn permits(user: bool, k: AccessKind, e: u32) -> bool
     ensures { λ r. ⌜ r ≡ permitsOf user k e ⌝ }
 {
-    (bit(e, 2) | !user) & (bit(e, 1) | !is_write(k))
+    (bit(e, USER) | !user) & (bit(e, WRITABLE) | !is_write(k))
 }

@@ -32,3 +32,17 @@ pub struct Regime {
     pub user: bool,
     pub translated: bool,
 }
+
+// Tables 2-1 to 2-3: bits of a table entry. Bit 3 of a segment entry says that it is not paged, of a page entry that it was
+// referenced.
+pub const VALID: u32 = 0;
+
+pub const WRITABLE: u32 = 1;
+
+pub const USER: u32 = 2;
+
+pub const NONPAGED: u32 = 3;
+
+pub const REFERENCED: u32 = 3;
+
+pub const MODIFIED: u32 = 4;

@@ -1,5 +1,7 @@
 // The recording bits of a page entry: Referenced, and at a write Modified.
 use crate::AccessKind;
+use crate::MODIFIED;
+use crate::REFERENCED;
 use crate::entries::is_write;
 use word::fields::field;
 use word::fields::set_bit;
@@ -14,9 +16,9 @@ pub fn mark(k: AccessKind, b: u8) -> u8
     ensures { λ r. ⌜ r ≡ marked k b ⌝ }
 {
     if is_write(k) {
-        field(set_bit(set_bit(b as u32, 3), 4), 0, 8) as u8
+        field(set_bit(set_bit(b as u32, REFERENCED), MODIFIED), 0, 8) as u8
     } else {
-        field(set_bit(b as u32, 3), 0, 8) as u8
+        field(set_bit(b as u32, REFERENCED), 0, 8) as u8
     }
 }
 

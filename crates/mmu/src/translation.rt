@@ -1,6 +1,8 @@
 // The walk: from a virtual address to a physical one, in two stages.
 use crate::AccessKind;
+use crate::NONPAGED;
 use crate::Segment;
+use crate::VALID;
 use crate::Walk;
 use crate::entries::fault_of;
 use crate::entries::page_place;
@@ -20,8 +22,8 @@ ghost use Rattle.mmu.specs.Walk.{segmentOf, segment, nonpagedOf, pageOf,
 pub fn segment_of(m: &[u8], va: u32, e: u32) -> Segment
     ensures { λ r. ⌜ r ≡ segmentOf (now (m .entry)) va e ⌝ }
 {
-    if bit(e, 0) {
-        if bit(e, 3) {
+    if bit(e, VALID) {
+        if bit(e, NONPAGED) {
             Segment::Nonpaged(e)
         } else {
             let p = page_place(e, va);
@@ -63,7 +65,7 @@ pub fn nonpaged(user: bool, k: AccessKind, va: u32, e: u32) -> Walk
 pub fn page(user: bool, k: AccessKind, va: u32, p: u32, e: u32) -> Walk
     ensures { λ r. ⌜ r ≡ pageOf user k va p e ⌝ }
 {
-    if bit(e, 0) & permits(user, k, e) {
+    if bit(e, VALID) & permits(user, k, e) {
         Walk::Paged(p, placed(field(e, 12, 20), 12, field(va, 0, 12)))
     } else {
         Walk::Fault(fault_of(k))

@@ -1,4 +1,5 @@
 // A run: its refusals, its turns under a budget, its answer.
+use crate::turns::STOP;
 use crate::turns::take_turn;
 use access_spec::JOURNAL_WORDS;
 use machine::Bank;
@@ -22,6 +23,23 @@ ghost use Rattle.run_spec.specs.Run.{board, turnOf, advance as advanceOf, refus
 ghost use Rattle.run_spec.specs.Stopping.{stoppedAt};
 ghost use Rattle.run_spec.specs.Boards.{entryBoard, exitBoard};
 ghost use Rattle.run.specs.Code.{runResultOf, stepResultOf, oneStep};
+
+// Stops of a run.
+const BUDGET_SPENT: u32 = 0;
+
+const REFUSED: u32 = 1;
+
+// The refusals of a run.
+const MEMORY_SIZE: u32 = 1;
+
+const REGISTER_REFUSED: u32 = 2;
+
+const LEVEL_REFUSED: u32 = 3;
+
+const LEVEL_NOT_USER: u32 = 9;
+
+// The interrupt inputs are three lines.
+const MOST_LEVEL: u32 = 7;
 
 // Steps done, the stop and its code, with the machine that is left.
 pub struct Ran {
@@ -56,15 +74,15 @@ fn advance(
         if x != 0 {
             return Stopped {
                 steps: n,
-                stop: (x / 0x1_0000_0000) as u32,
-                code: (x % 0x1_0000_0000) as u32,
+                stop: (x / STOP) as u32,
+                code: (x % STOP) as u32,
             };
         }
         n = n + 1;
     }
     Stopped {
         steps: n,
-        stop: 0,
+        stop: BUDGET_SPENT,
         code: 0,
     }
 }
@@ -74,16 +92,16 @@ fn refusal(m: &[u8], r: &Bank, confined: bool, level: u32) -> u32
     ensures { λ x. ⌜ ((q : Cache) → x ≡ refusalOf confined level (board (cpu (now (r .entry)) q) (now (m .entry)))) ⌝ }
 {
     if !whole_pages(m.len()) {
-        return 1;
+        return MEMORY_SIZE;
     }
     if !good_bank(r) {
-        return 2;
+        return REGISTER_REFUSED;
     }
-    if 7 < level {
-        return 3;
+    if MOST_LEVEL < level {
+        return LEVEL_REFUSED;
     }
     if confined & !(is_user(r) & is_virtual(r)) {
-        return 9;
+        return LEVEL_NOT_USER;
     }
     0
 }
@@ -103,7 +121,7 @@ pub fn run_lent(
     if e != 0 {
         return Stopped {
             steps: 0,
-            stop: 1,
+            stop: REFUSED,
             code: e,
         };
     }
@@ -111,7 +129,7 @@ pub fn run_lent(
     if budget == 0 {
         return Stopped {
             steps: 0,
-            stop: 0,
+            stop: BUDGET_SPENT,
             code: 0,
         };
     }

@@ -13,6 +13,7 @@ use machine::places::PSW;
 use machine::places::SP;
 use machine::registers::stack_held;
 use machine::status::is_user;
+use memory::answers::EXCEPTION;
 use memory::answers::low32;
 use step::stepping::step;
 use step_pending::events::due_code;
@@ -38,6 +39,14 @@ ghost use Rattle.run_spec.specs.Boards.{entryBoard, exitBoard};
 ghost use Rattle.exec.specs.Code.{confinedOut};
 ghost use Rattle.run.specs.Code.{turned, attemptEnded};
 
+// A turn that stops answers its stop times this, and its code; 0 goes on.
+pub(crate) const STOP: u64 = 0x1_0000_0000;
+
+// Stop 01 with refusal 4, and stop 02.
+const REFUSED_STACK: u64 = STOP + 4;
+
+const EVENT_DUE: u64 = 2 * STOP;
+
 // A turn that would end with x; one that loses its stack is refused with number 4 and leaves what was before it.
 fn judge(
     m: &mut [u8],
@@ -58,7 +67,7 @@ fn judge(
     undo(m, journal);
     *r = *bank;
     *q = *cache;
-    0x1_0000_0004
+    REFUSED_STACK
 }
 
 // The timers, by the CONFIG and the level that the turn began with.
@@ -93,13 +102,13 @@ fn end_attempt(q: &mut Quads, r: &mut Bank, bank: &Bank, cache: &Quads, level: u
         count_turn(r, bank, true);
         return 0;
     }
-    if 0x1_0000_0000 <= x {
-        return 0x2_0000_0000 + low32(x) as u64;
+    if EXCEPTION <= x {
+        return EVENT_DUE + low32(x) as u64;
     }
     *r = *bank;
     *q = *cache;
     looked(r, level);
-    0x2_0000_0000 + x
+    EVENT_DUE + x
 }
 
 // Kind 04: before the first event sequence.
@@ -119,7 +128,7 @@ fn confined_turn(
     looked(r, level);
     let due = due_code(r, level);
     if due != 0 {
-        return 0x2_0000_0000 + due as u64;
+        return EVENT_DUE + due as u64;
     }
     let x = attempt(m, journal, q, r, true);
     let y = end_attempt(q, r, &bank, &cache, level, x);

@@ -6,3 +6,8 @@ pub struct Stopped {
     pub stop: u32,
     pub code: u32,
 }
+
+// Codes of a confined run's stop at an instruction that it has only fetched: a KCALL, an unimplemented one.
+pub const KCALL_CODE: u64 = 0x20;
+
+pub const UNIMPLEMENTED_CODE: u64 = 0x21;

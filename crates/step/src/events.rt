@@ -5,6 +5,7 @@ use exec_event_frames::sequences::interrupt_sequence;
 use exec_registers::frames::reset;
 use machine::Bank;
 use memory::answers::EXCEPTION;
+use memory::exceptions::TRACE;
 use step_pending::events::taken;
 use step_pending::events::vector_of;
 ghost use mathlib.Core.Path.{_≡_};
@@ -46,7 +47,7 @@ pub fn event_step(m: &mut [u8], journal: &mut Journal, r: &mut Bank, code: u32)
 {
     let k = code % 32;
     taken(r, k);
-    if k == 2 {
+    if k == TRACE {
         let x = exception_sequence(m, journal, r, 2);
         settle(r, x);
         return;

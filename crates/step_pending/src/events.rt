@@ -1,10 +1,13 @@
 // What a look before a step finds due (1.11.2, 1.11.5).
 use machine::Bank;
+use machine::bits::PRIORITY;
+use machine::bits::PRIORITY_BITS;
 use machine::places::NMI_TAKEN;
 use machine::places::PSW;
 use machine::places::TIMER1_DUE;
 use machine::places::TIMER2_DUE;
 use machine::places::TRACE_DUE;
+use memory::exceptions::TRACE;
 use word::fields::field;
 use word::sums::plus;
 ghost use mathlib.Core.Path.{_≡_};
@@ -14,6 +17,20 @@ ghost use Rattle.datapath.specs.Contracts.{Becomes};
 ghost use Rattle.step_spec.specs.Events.{dueOf, looked as lookedOf};
 ghost use Rattle.step_spec.specs.Step.{traceFalls};
 ghost use Rattle.step_pending.specs.Dues.{dueCode, nothingDue, eventFrom};
+
+// Document 01's numbers of what is due: an interrupt of level 0, and of level 1; the timers. A trace has its exception's.
+const INTERRUPT: u32 = 0x10;
+
+const INTERRUPT_1: u32 = INTERRUPT + 1;
+
+const TIMER1: u32 = 0x17;
+
+const TIMER2: u32 = 0x18;
+
+// Table 1-14: places of vectors.
+const EXCEPTION_VECTOR: u32 = 4;
+
+const INTERRUPT_VECTOR: u32 = 16;
 
 // A look that finds another level ends the wait of input 0.
 pub fn looked(b: &mut Bank, level: u32)
@@ -37,7 +54,7 @@ pub fn trace_falls(b: &mut Bank, on: bool)
 fn priority(x: u32) -> u32
     ensures { λ r. ⌜ r ≡ fieldOf x 12 3 ⌝ }
 {
-    field(x, 12, 3)
+    field(x, PRIORITY, PRIORITY_BITS)
 }
 
 // Whether no interrupt is asked for and nothing is due: most steps.
@@ -53,21 +70,21 @@ fn find_due(b: &Bank, level: u32) -> u32
 {
     let p = priority(b[PSW]);
     if (level == 0) & (b[NMI_TAKEN] != 1) {
-        return 0x10;
+        return INTERRUPT;
     }
     if (level == 1) & (1 < p) {
-        return 0x11;
+        return INTERRUPT_1;
     }
     if (b[TIMER1_DUE] == 1) & (1 < p) {
-        return 0x17;
+        return TIMER1;
     }
     if (b[TIMER2_DUE] == 1) & (1 < p) {
-        return 0x18;
+        return TIMER2;
     }
     if (2 <= level) & (level <= 6) & (level < p) {
-        return plus(0x10, level);
+        return plus(INTERRUPT, level);
     }
-    if b[TRACE_DUE] == 1 { 0x2 } else { 0 }
+    if b[TRACE_DUE] == 1 { TRACE } else { 0 }
 }
 
 // The same, with the test that most steps end at.
@@ -87,8 +104,12 @@ pub fn vector_of(code: u32) -> u32
     ensures { λ r. ⌜ r ≡ vectorOf (eventFrom (code % 32)) ⌝ }
 {
     let k = code % 32;
-    if k < 16 {
-        if k == 2 { 4 } else { 16 }
+    if k < INTERRUPT {
+        if k == TRACE {
+            EXCEPTION_VECTOR
+        } else {
+            INTERRUPT_VECTOR
+        }
     } else {
         k * 4 - 48
     }
@@ -99,7 +120,7 @@ fn low_taken(b: &mut Bank, code: u32)
     requires { ⌜ code ≤ 16 ⌝ }
     ensures { λ r. ⌜ Becomes b (takenOf (eventFrom code)) ⌝ }
 {
-    if code == 2 {
+    if code == TRACE {
         b[TRACE_DUE] = 0;
     } else {
         b[NMI_TAKEN] = 1;
@@ -110,15 +131,15 @@ fn low_taken(b: &mut Bank, code: u32)
 pub fn taken(b: &mut Bank, code: u32)
     ensures { λ r. ⌜ Becomes b (takenOf (eventFrom code)) ⌝ }
 {
-    if code == 0x17 {
+    if code == TIMER1 {
         b[TIMER1_DUE] = 0;
         return;
     }
-    if code == 0x18 {
+    if code == TIMER2 {
         b[TIMER2_DUE] = 0;
         return;
     }
-    if code <= 16 {
+    if code <= INTERRUPT {
         low_taken(b, code);
     }
 }

@@ -3,6 +3,8 @@ use machine::Bank;
 use machine::bits::TIMER1_INSTRUCTIONS;
 use machine::bits::TIMER1_INTERRUPT;
 use machine::bits::TIMER1_KERNEL;
+use machine::bits::TIMER2_EVENT;
+use machine::bits::TIMER2_EVENT_BITS;
 use machine::bits::TIMER2_INTERRUPT;
 use machine::bits::TIMER2_KERNEL;
 use machine::places::TIMER1;
@@ -17,6 +19,11 @@ ghost use Rattle.machine.specs.Registers.{timer1, timer2, timer1Due, timer2Due}
 ghost use Rattle.datapath.specs.Contracts.{Becomes};
 ghost use Rattle.step_spec.specs.Timers.{counts1 as counts1Of, counts2 as counts2Of, ticked, counted as countedOf, firstCounted, secondCounted};
 
+// Table 1-2: what Timer2 counts, by its event.
+const CLOCKS: u32 = 0;
+
+const INSTRUCTIONS: u32 = 1;
+
 // Whether each timer counts a step (Table 1-2), by the CONFIG and the level it began with.
 fn counts1(config: u32, kernel: bool, completed: bool) -> bool
     ensures { λ r. ⌜ r ≡ counts1Of config kernel completed ⌝ }
@@ -27,8 +34,9 @@ fn counts1(config: u32, kernel: bool, completed: bool) -> bool
 fn counts2(config: u32, kernel: bool, completed: bool) -> bool
     ensures { λ r. ⌜ r ≡ counts2Of config kernel completed ⌝ }
 {
-    let event = field(config, 25, 5);
-    (!bit(config, TIMER2_KERNEL) | kernel) & ((event == 0) | ((event == 1) & completed))
+    let event = field(config, TIMER2_EVENT, TIMER2_EVENT_BITS);
+    (!bit(config, TIMER2_KERNEL) | kernel)
+        & ((event == CLOCKS) | ((event == INSTRUCTIONS) & completed))
 }
 
 // Timer1 by one; on says whether its interrupt is.

@@ -46,6 +46,9 @@ pub fn limit(negative: bool) -> u32
     if negative { 0x8000_0000 } else { 0x7FFF_FFFF }
 }
 
+// How many words there are.
+const WORDS: u64 = 0x1_0000_0000;
+
 // The whole product of two words.
 pub fn product(b: u32, a: u32) -> u64
     ensures { λ r. ⌜ r ≡ b * a ⌝ }
@@ -59,7 +62,7 @@ pub fn mul(b: u32, a: u32) -> Sum
 {
     let wide = product(b, a);
     Sum {
-        value: (wide % 0x1_0000_0000) as u32,
+        value: (wide % WORDS) as u32,
         carry: 0xFFFF_FFFF < wide,
         overflow: (limit(differ(b, a)) as u64) < product(magnitude(b), magnitude(a)),
     }
