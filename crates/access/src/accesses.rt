@@ -8,6 +8,7 @@ use memory::answers::raised;
 use memory::exceptions::ALIGNMENT_FAULT;
 use memory::exceptions::BUS_FAULT;
 use memory::exceptions::READ_FAULT;
+use memory::exceptions::WRITE_FAULT;
 use memory::loads::load;
 use memory::loads::load_half;
 use memory::stores::store;
@@ -173,7 +174,7 @@ pub fn probe(m: &[u8], stb: u32, user: bool, translated: bool, a: u32) -> u64
         let x = translate(m, user, stb, AccessKind::Write, a);
         match x {
             Walk::Fault(c) => {
-                if c == 9 {
+                if c == WRITE_FAULT {
                     raised(READ_FAULT)
                 } else {
                     raised(c)

@@ -21,6 +21,9 @@ Journal = List ℕ
 abbrev pub room : ℕ
 room = 200
 
+abbrev pub journalWords : ℕ
+journalWords = 201
+
 abbrev pub count : Journal → ℕ
 count j = getD j 0 0
 

@@ -67,9 +67,6 @@ module _ (c : Cpu) where
       rw (e, f) refl
 
   module _ (a n : ℕ) where
-    b₂ : ℕ
-    b₂ = plusOf a 2
-
     on : plusOf (plusOf a 2) 2 ≡ plusOf a 4
     on = omega arith
 

@@ -31,7 +31,8 @@ ghost use Rattle.datapath.specs.Contracts.{entryCpu, exitCpu};
 
 // An operand in the stack cache.
 fn read_cached(q: &Quads, r: &Bank, w: Width, a: u32) -> u64
-    ensures { λ x. ⌜ response (replied (entryCpu q r) a (answerOf x)) (onlyMemory []) ≡ interpret logging (readCached (entryCpu q r) w a) (onlyMemory []) ⌝ }
+    ensures { λ x. ⌜ response (replied (entryCpu q r) a (answerOf x)) (onlyMemory [])
+        ≡ interpret logging (readCached (entryCpu q r) w a) (onlyMemory []) ⌝ }
 {
     if aligned(w, a) {
         good(machine::cache::cache_read(w, q, place(is_little(r), w, a)))
@@ -53,7 +54,8 @@ pub fn read_data(m: &mut [u8], journal: &mut Journal, q: &Quads, r: &Bank, w: Wi
 }
 
 fn write_cached(q: &mut Quads, r: &Bank, w: Width, a: u32, v: u32) -> u64
-    ensures { λ x. ⌜ response (writeOut (exitCpu q r) a (answerOf x)) (onlyMemory []) ≡ interpret logging (writeCached (entryCpu q r) w a v) (onlyMemory []) ⌝ }
+    ensures { λ x. ⌜ response (writeOut (exitCpu q r) a (answerOf x)) (onlyMemory [])
+        ≡ interpret logging (writeCached (entryCpu q r) w a v) (onlyMemory []) ⌝ }
 {
     if aligned(w, a) {
         machine::cache::cache_write(w, q, place(is_little(r), w, a), v);

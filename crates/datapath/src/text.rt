@@ -13,7 +13,7 @@ use word::fields::joined;
 use word::fields::low_half;
 use word::sums::plus;
 ghost use mathlib.Core.Path.{_≡_};
-ghost use Prim.Native.Nat.{_+_, _*_, _%_};
+ghost use Prim.Native.Nat.{_%_};
 ghost use Rattle.memory.specs.Answers.{answerOf};
 ghost use Rattle.isa.specs.Decode.{textOf, cpuPrefix};
 ghost use mathlib.Core.List.{[], _∷_};

@@ -8,8 +8,8 @@ use Rattle.datapath.specs.Parts.{Out, ok, stop, faulted}
 use Rattle.datapath.specs.Moves.{filled}
 use Rattle.datapath_moves.specs.declared.filling.QuadWords.{QuadWords}
 
-abbrev pub stoppedAt : ℕ → ℕ → QuadWords
-stoppedAt n e = record { answer = n; at = e; w0 = 0; w1 = 0; w2 = 0 }
+abbrev pub readingStopped : ℕ → ℕ → QuadWords
+readingStopped n e = record { answer = n; at = e; w0 = 0; w1 = 0; w2 = 0 }
 
 -- filled into the cache, or the fault of the word at which the reading stopped
 abbrev pub quadOut : Cpu → ℕ → QuadWords → Out Cpu

@@ -33,7 +33,7 @@ ghost use Rattle.access.specs.Quads.{Quad};
 ghost use Rattle.datapath.specs.Code.{cpuOut};
 ghost use Rattle.datapath.specs.Moves.{fillQuad, mayFill, fill as fillOf};
 ghost use Rattle.datapath.specs.Contracts.{entryCpu, Ends};
-ghost use Rattle.datapath_moves.specs.Words.{stoppedAt, quadOut};
+ghost use Rattle.datapath_moves.specs.Words.{readingStopped, quadOut};
 
 // The last word of a quad-word and the three before it; or the answer that faulted, and the address of its word.
 pub struct QuadWords {
@@ -46,7 +46,7 @@ pub struct QuadWords {
 
 // A reading that was stopped at a word.
 fn stopped_at(answer: u64, at: u32) -> QuadWords
-    ensures { λ x. ⌜ x ≡ stoppedAt answer at ⌝ }
+    ensures { λ x. ⌜ x ≡ readingStopped answer at ⌝ }
 {
     QuadWords {
         answer,

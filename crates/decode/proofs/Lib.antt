@@ -4,4 +4,3 @@ pub mod MonadicLaws
 pub mod FormLaws
 pub mod RestLaws
 pub mod TextLaws
-pub mod Laws

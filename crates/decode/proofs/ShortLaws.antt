@@ -1,15 +1,10 @@
 -- The ways out of the functions that cut fields and decode one parcel.
 -- Assumes nothing.
-use Prim.Native.Nat.{ℕ, _*_, _/_, _%_, _^_, _<_, _≤_}
-use mathlib.Core.Path.{_≡_, refl, sym, ap, _∙_}
+use Prim.Native.Nat.{ℕ, _/_, _%_, _^_}
+use mathlib.Core.Path.{_≡_, refl, _∙_}
 use native.Mathlib.Nat.{div-one}
-use native.Mathlib.Omega.{arith}
-use lib.Bits.{bitOr}
-use Rattle.word.proofs.FieldLaws.{shifted-field, filled-field}
-use Rattle.word.specs.Widths.{signExtendOf}
 use Rattle.isa.specs.declared.ShortRow.{ShortRow}
 use Rattle.isa.specs.declared.FieldMode.{FieldMode}
-use Rattle.isa.specs.declared.FieldMode.the-variants.{Absent, Imm5, Uimm5, Wai5, Stk5, Istk5, Imm10, Pcrel10, Stk8, Fill8}
 use Rattle.isa.specs.declared.ShortEntry.{ShortEntry}
 use Rattle.isa.specs.declared.ShortEntry.the-variants.{Row, Stack, Niladic}
 use Rattle.isa.specs.declared.ShortInstruction.{ShortInstruction}
@@ -24,53 +19,9 @@ use Rattle.isa.specs.Decode.{shortEntry, shortInstruction, shortAnswer, decodeS
 pub low-bits : (x k r : ℕ) → r ≡ x / 2 ^ 0 % 2 ^ k → r ≡ x % 2 ^ k
 low-bits x k r e = e ∙ simp div-one
 
--- a field f of a known mode k
-pub source-is : (m k : FieldMode) (p f r : ℕ) → m ≡ k → f ≡ sourceField k p → r ≡ fieldValue k f
-    → r ≡ fieldValue m (sourceField m p)
-source-is m k p f r e h g = rw (e, sym h) g
-
-pub destination-is : (m k : FieldMode) (p f r : ℕ) → m ≡ k → f ≡ destinationField p → r ≡ fieldValue k f
-    → r ≡ fieldValue m (destinationField p)
-destination-is m k p f r e h g = rw (e, sym h) g
-
--- a field scaled by a shift
-source-lt : (k : FieldMode) (p : ℕ) → sourceField k p < 1024
-source-lt Absent p = omega arith
-source-lt Imm5 p = omega arith
-source-lt Uimm5 p = omega arith
-source-lt Wai5 p = omega arith
-source-lt Stk5 p = omega arith
-source-lt Istk5 p = omega arith
-source-lt Imm10 p = omega arith
-source-lt Pcrel10 p = omega arith
-source-lt Stk8 p = omega arith
-source-lt Fill8 p = omega arith
-
-pub source-scaled : (m k : FieldMode) (p f n : ℕ) → m ≡ k → f ≡ sourceField k p → f * n ≡ fieldValue k f → n ≤ 16
-    → f * n % 2 ^ 32 ≡ fieldValue m (sourceField m p)
-source-scaled m k p f n e h g l = source-is m k p f (f * n % 2 ^ 32) e h (shifted-field f n (rw h (source-lt k p)) l ∙ g)
-
-pub destination-scaled : (m k : FieldMode) (p f n : ℕ) → m ≡ k → f ≡ destinationField p → f * n ≡ fieldValue k f → n ≤ 16
-    → f * n % 2 ^ 32 ≡ fieldValue m (destinationField p)
-destination-scaled m k p f n e h g l = destination-is m k p f (f * n % 2 ^ 32) e h (shifted-field f n (omega arith) l ∙ g)
-
--- two times a jump's field, extended
-pub source-relative : (m : FieldMode) (p f r : ℕ) → m ≡ Pcrel10 → f ≡ p % 1024 → r ≡ signExtendOf 11 (f * 2 % 2 ^ 32)
-    → r ≡ fieldValue m (sourceField m p)
-source-relative m p f r e h g = source-is m Pcrel10 p f r e h (g ∙ ap (signExtendOf 11) (shifted-field f 2 (omega arith) (omega arith)))
-
-pub destination-relative : (m : FieldMode) (p f r : ℕ) → m ≡ Pcrel10 → f ≡ p % 32 → r ≡ signExtendOf 11 (f * 2 % 2 ^ 32)
-    → r ≡ fieldValue m (destinationField p)
-destination-relative m p f r e h g = destination-is m Pcrel10 p f r e h (g ∙ ap (signExtendOf 11) (shifted-field f 2 (omega arith) (omega arith)))
-
--- ENTER's field, filled with ones above
-pub source-filled : (m : FieldMode) (p f : ℕ) → m ≡ Fill8 → f ≡ p % 256
-    → bitOr (f * 16 % 2 ^ 32) 0xFFFF_F000 ≡ fieldValue m (sourceField m p)
-source-filled m p f e h = source-is m Fill8 p f (bitOr (f * 16 % 2 ^ 32) 0xFFFF_F000) e h (filled-field f (omega arith))
-
-pub destination-filled : (m : FieldMode) (p f : ℕ) → m ≡ Fill8 → f ≡ p % 32
-    → bitOr (f * 16 % 2 ^ 32) 0xFFFF_F000 ≡ fieldValue m (destinationField p)
-destination-filled m p f e h = destination-is m Fill8 p f (bitOr (f * 16 % 2 ^ 32) 0xFFFF_F000) e h (filled-field f (omega arith))
+-- source_field: k is the mode found
+pub source-at : (m k : FieldMode) (p f : ℕ) → m ≡ k → f ≡ sourceField k p → f ≡ sourceField m p
+source-at m k p f e h = rw e h
 
 -- one parcel
 pub entry-is : (e g : ShortEntry) (p : ℕ) (r : ShortEntry) → e ≡ g → r ≡ shortEntry g p → r ≡ shortEntry e p

@@ -1,7 +1,7 @@
 // Operand fields, cut by shifts and masks, and what they stand for (sections 1.6.1 and 3.3, Table 3-2).
 use isa::FieldMode;
+use isa::fields::field_value;
 use word::fields::field;
-use word::widths::extend;
 ghost use mathlib.Core.Path.{_≡_};
 ghost use Prim.Native.Nat.{_%_, _/_, _^_};
 ghost use Rattle.isa.specs.Fields.{sourceField, destinationField, fieldValue};
@@ -20,36 +20,32 @@ pub fn middle(p: u16) -> u32
     field(p as u32, 5, 5)
 }
 
-pub fn source_value(mode: FieldMode, p: u16) -> u32
-    ensures { λ r. ⌜ r ≡ fieldValue mode (sourceField mode p) ⌝ }
+// Where the source field stands.
+fn source_field(mode: FieldMode, p: u16) -> u32
+    ensures { λ r. ⌜ r ≡ sourceField mode p ⌝ }
 {
     match mode {
         FieldMode::Absent => 0,
-        FieldMode::Imm5 => extend(27, middle(p)),
+        FieldMode::Imm5 => middle(p),
         FieldMode::Uimm5 => middle(p),
-        FieldMode::Wai5 => middle(p) << 2,
-        FieldMode::Stk5 => middle(p) << 2,
-        FieldMode::Istk5 => middle(p) << 2,
-        FieldMode::Imm10 => low(p as u32, 10) << 2,
-        FieldMode::Pcrel10 => extend(21, low(p as u32, 10) << 1),
-        FieldMode::Stk8 => low(p as u32, 8) << 4,
-        FieldMode::Fill8 => (low(p as u32, 8) << 4) | 0xFFFF_F000,
+        FieldMode::Wai5 => middle(p),
+        FieldMode::Stk5 => middle(p),
+        FieldMode::Istk5 => middle(p),
+        FieldMode::Imm10 => low(p as u32, 10),
+        FieldMode::Pcrel10 => low(p as u32, 10),
+        FieldMode::Stk8 => low(p as u32, 8),
+        FieldMode::Fill8 => low(p as u32, 8),
     }
+}
+
+pub fn source_value(mode: FieldMode, p: u16) -> u32
+    ensures { λ r. ⌜ r ≡ fieldValue mode (sourceField mode p) ⌝ }
+{
+    field_value(mode, source_field(mode, p))
 }
 
 pub fn destination_value(mode: FieldMode, p: u16) -> u32
     ensures { λ r. ⌜ r ≡ fieldValue mode (destinationField p) ⌝ }
 {
-    match mode {
-        FieldMode::Absent => 0,
-        FieldMode::Imm5 => extend(27, low(p as u32, 5)),
-        FieldMode::Uimm5 => low(p as u32, 5),
-        FieldMode::Wai5 => low(p as u32, 5) << 2,
-        FieldMode::Stk5 => low(p as u32, 5) << 2,
-        FieldMode::Istk5 => low(p as u32, 5) << 2,
-        FieldMode::Imm10 => low(p as u32, 5) << 2,
-        FieldMode::Pcrel10 => extend(21, low(p as u32, 5) << 1),
-        FieldMode::Stk8 => low(p as u32, 5) << 4,
-        FieldMode::Fill8 => (low(p as u32, 5) << 4) | 0xFFFF_F000,
-    }
+    field_value(mode, low(p as u32, 5))
 }

@@ -1,5 +1,4 @@
 mod ShortLaws
-mod ValueLaws
 mod OperandLaws
 mod MonadicLaws
 mod WideLaws

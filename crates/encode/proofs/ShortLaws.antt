@@ -14,7 +14,7 @@ use Rattle.isa.specs.declared.Encoded.{Encoded}
 use Rattle.isa.specs.declared.ShortInstruction.{ShortInstruction}
 use Rattle.isa.specs.Encodings.{shortListed}
 use Rattle.isa.specs.Encode.{coded, text1, rawField, carries, sourcePlace, shortParcel, shortCoded, encodeShort}
-use Rattle.isa.proofs.Bounds.{base-lt}
+use Rattle.isa.proofs.BoundLaws.{base-lt}
 
 -- source_place
 pub place-arm : (m n : FieldMode) (f r : ℕ) → m ≡ n → r ≡ sourcePlace n f → r ≡ sourcePlace m f

@@ -18,7 +18,7 @@ use Rattle.isa.specs.declared.Encoded.{Encoded}
 use Rattle.isa.specs.Encodings.{dyadicListed, monadicListed}
 use Rattle.isa.specs.Encode.{coded, text3, text5, withPrefix, operandCode, hasMode, fits, admits, operandRaw, dyadicText, dyadicHasCode, encodeDyadic, monadicCode, takes, encodeMonadic}
 use Rattle.encode.specs.Parts.{dyadicParcels, monadicHasCode, monadicParcels}
-use Rattle.isa.proofs.Bounds.{opcode-lt, subcode-lt, operand-lt, single-lt}
+use Rattle.isa.proofs.BoundLaws.{opcode-lt, subcode-lt, operand-lt, single-lt}
 
 -- dyadic_text
 module _ (z : Bool) (w : Wide) (o s d x y : ℕ) where

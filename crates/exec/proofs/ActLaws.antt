@@ -20,7 +20,7 @@ use Rattle.datapath.specs.Parts.{Out, ok, stop, onward, done, _>>=_}
 use Rattle.datapath.specs.Code.{cpuOut}
 use Rattle.datapath.proofs.BindLaws.{bind}
 use Rattle.exec_spec.specs.declared.Monadic.{Monadic}
-use Rattle.exec_spec.specs.Frames.{unimplementedSequence}
+use Rattle.exec_spec.specs.EventFrames.{unimplementedSequence}
 use Rattle.exec_spec.specs.Execute.{oneOperand, normal, Traced, traced, execute}
 use Rattle.exec_rows.specs.declared.Action.{Action}
 use Rattle.exec_rows.specs.declared.Action.the-variants.{One}

@@ -18,7 +18,7 @@ use Rattle.datapath.specs.Code.{cpuOut}
 use Rattle.machine.specs.Bits.{flagBit}
 use Rattle.exec_spec.specs.Control.{pcAdvanced, jump, jumpIf, call, loadAddress, released, return}
 use Rattle.exec_spec.specs.Stack.{enter, catch}
-use Rattle.exec_spec.specs.Frames.{kcall}
+use Rattle.exec_spec.specs.EventFrames.{kcall}
 use Rattle.exec_spec.specs.declared.Monadic.{Monadic}
 use Rattle.exec_spec.specs.declared.Monadic.the-variants as monadic
 use Rattle.exec_spec.specs.Execute.{executeMonadic}

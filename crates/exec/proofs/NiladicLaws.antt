@@ -15,7 +15,7 @@ use Rattle.datapath.specs.Parts.{Out}
 use Rattle.datapath.specs.Code.{cpuOut}
 use Rattle.machine.specs.Bits.{carryBit, overflowBit}
 use Rattle.exec_spec.specs.Control.{pcAdvanced, testBit, withGuard}
-use Rattle.exec_spec.specs.Frames.{kret, cret, privileged}
+use Rattle.exec_spec.specs.EventFrames.{kret, cret, privileged}
 use Rattle.exec_spec.specs.declared.Niladic.{Niladic}
 use Rattle.exec_spec.specs.declared.Niladic.the-variants as niladic
 use Rattle.exec_spec.specs.Execute.{executeNiladic}

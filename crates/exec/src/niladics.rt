@@ -10,7 +10,7 @@ use machine::status::is_user;
 use memory::answers::raised;
 use memory::exceptions::PRIVILEGE_VIOLATION;
 ghost use Rattle.datapath.specs.Contracts.{Ends, EndsAnyCache};
-ghost use Rattle.exec_spec.specs.Frames.{kret, cret, privileged};
+ghost use Rattle.exec_spec.specs.EventFrames.{kret, cret, privileged};
 ghost use Rattle.exec_spec.specs.Execute.{executeNiladic};
 
 // At user level it is exception 5.

@@ -16,7 +16,7 @@ ghost use Rattle.machine.specs.Status.{Cpu};
 ghost use Rattle.datapath.specs.Parts.{Out};
 ghost use Rattle.exec_spec.specs.Operands.{Place};
 ghost use Rattle.exec_operands.specs.Code.{placeAt, Resumes};
-ghost use Rattle.exec_spec.specs.Dyadic.{reading};
+ghost use Rattle.exec_spec.specs.Dyadic.{withOperands};
 ghost use Rattle.exec_dyadic.specs.Code.{finding};
 
 // The destination's address or an exception, and the source's value.
@@ -71,7 +71,7 @@ pub fn read_both(
     d: Operand,
 ) -> Both
     ensures { λ z. ⌜ Resumes (ℕ → Place → ℕ → Program (Out Cpu)) (z .answer) m journal q r
-        (λ f y. f (z .source) (placeAt d (z .address)) y) (λ c f. reading c wide s d f) ⌝ }
+        (λ f y. f (z .source) (placeAt d (z .address)) y) (λ c f. withOperands c wide s d f) ⌝ }
 {
     let f = find(m, journal, q, r, wide, s, d);
     if EXCEPTION <= f.answer {

@@ -21,7 +21,7 @@ use memory::answers::low32;
 use memory::answers::raised;
 use memory::exceptions::ZERO_DIVIDE;
 ghost use Rattle.datapath.specs.Contracts.{Ends};
-ghost use Rattle.exec_spec.specs.Dyadic.{compute as computeOf, accumulate as accumulateOf, interlock as interlockOf, compare as compareOf};
+ghost use Rattle.exec_spec.specs.Dyadic.{compute as computeOf, accumulate as accumulateOf, interlock as interlockOf, compare as compareOf, putResult, accumulateResult, computeWith, accumulateWith, interlockWith};
 ghost use Rattle.exec_alu.specs.Results.{unpacked};
 ghost use Rattle.exec_operands.specs.Code.{placeAt};
 

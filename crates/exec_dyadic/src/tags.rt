@@ -16,7 +16,7 @@ use memory::answers::good;
 use memory::answers::low32;
 use word::Tagged;
 ghost use Rattle.datapath.specs.Contracts.{Ends};
-ghost use Rattle.exec_spec.specs.Dyadic.{writeTagged, storeTagged, tagged as taggedOf, computeTagged};
+ghost use Rattle.exec_spec.specs.Dyadic.{writeTagged, storeTagged, tagged as taggedOf, computeTagged, putTagged};
 ghost use Rattle.exec_operands.specs.Code.{placeAt};
 
 // To an operand that is no register, found at a.

@@ -18,7 +18,7 @@ use Rattle.datapath.specs.Data.{readFrame}
 use Rattle.datapath.specs.Code.{cpuOut}
 use Rattle.datapath.proofs.PartLaws.{goes, stops-ended, ended-goes, ended-stops}
 use Rattle.exec_spec.specs.Control.{readWord32, nextPc}
-use Rattle.exec_spec.specs.Frames.{pushFrame, throughVector, kcallVector, kcall, returned, kret}
+use Rattle.exec_spec.specs.EventFrames.{pushFrame, throughVector, kcallVector, kcall, returned, kret}
 use Rattle.exec_flow.proofs.EndLaws.{finished, loaded-on, load-stopped}
 use Rattle.exec_flow.proofs.WordLaws.{Valued}
 use Rattle.machine.proofs.BankLaws.{Made}

@@ -15,7 +15,7 @@ use Rattle.datapath.specs.Parts.{Out, _>>=_, done}
 use Rattle.datapath.specs.Data.{writeFrame}
 use Rattle.datapath.specs.Code.{cpuOut}
 use Rattle.exec_spec.specs.Control.{jumped}
-use Rattle.exec_spec.specs.Frames.{pushPair, pushFrame, throughVector}
+use Rattle.exec_spec.specs.EventFrames.{pushPair, pushFrame, throughVector}
 use Rattle.exec_flow.proofs.EndLaws.{finished, loaded-on, load-stopped, stored-on, store-stopped}
 use Rattle.machine.proofs.BankLaws.{Made}
 

@@ -17,7 +17,7 @@ use Rattle.datapath.specs.Data.{readFrame, writeData}
 use Rattle.datapath.specs.Code.{cpuOut}
 use Rattle.datapath.proofs.PartLaws.{ended-goes, ended-stops}
 use Rattle.exec_spec.specs.Control.{jumped}
-use Rattle.exec_spec.specs.Frames.{pushPair, pushFrame, throughVector, restoredCsp, exceptionVector, interruptSequence, exceptionSequence, storePc, unimplementedSequence}
+use Rattle.exec_spec.specs.EventFrames.{pushPair, pushFrame, throughVector, restoredCsp, exceptionVector, interruptSequence, exceptionSequence, storePc, unimplementedSequence}
 use Rattle.exec_flow.proofs.EndLaws.{finished, loaded-on, load-stopped, stored-on, store-stopped}
 use Rattle.machine.proofs.BankLaws.{Made}
 

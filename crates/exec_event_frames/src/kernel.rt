@@ -5,8 +5,8 @@ use access_spec::Journal;
 use datapath::RESETS;
 use datapath::data::read_frame;
 use exec_flow::words::read_word32;
+use exec_registers::event_frames::returned;
 use exec_registers::flow::next_pc;
-use exec_registers::frames::returned;
 use isa::MonadicMode;
 use machine::Bank;
 use machine::Quads;
@@ -15,7 +15,7 @@ use memory::answers::EXCEPTION;
 use memory::answers::low32;
 use word::sums::plus;
 ghost use Rattle.datapath.specs.Contracts.{Ends, EndsAnyCache};
-ghost use Rattle.exec_spec.specs.Frames.{kcall as kcallOf, kret as kretOf};
+ghost use Rattle.exec_spec.specs.EventFrames.{kcall as kcallOf, kret as kretOf};
 
 // n is the parcels of the instruction.
 pub fn kcall(

@@ -4,8 +4,8 @@ use access_spec::Journal;
 use datapath::RESETS;
 use datapath::data::read_frame;
 use datapath::data::write_frame;
-use exec_registers::frames::pushed;
-use exec_registers::frames::vectored;
+use exec_registers::event_frames::pushed;
+use exec_registers::event_frames::vectored;
 use machine::Bank;
 use machine::places::ISP;
 use machine::places::PSW;
@@ -15,7 +15,7 @@ use memory::answers::low32;
 use word::sums::minus;
 use word::sums::plus;
 ghost use Rattle.datapath.specs.Contracts.{EndsAnyCache};
-ghost use Rattle.exec_spec.specs.Frames.{pushPair, pushFrame, throughVector};
+ghost use Rattle.exec_spec.specs.EventFrames.{pushPair, pushFrame, throughVector};
 
 // a as PC, and PSW.
 pub fn push_pair(m: &mut [u8], journal: &mut Journal, r: &mut Bank, a: u32) -> u64

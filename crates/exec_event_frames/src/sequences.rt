@@ -26,7 +26,7 @@ ghost use Rattle.machine.specs.Registers.{pc, sp};
 ghost use Rattle.machine.specs.Status.{spCurrent, reg};
 ghost use Rattle.datapath.specs.Data.{writeData};
 ghost use Rattle.datapath.specs.Contracts.{Ends, EndsAnyCache};
-ghost use Rattle.exec_spec.specs.Frames.{interruptSequence, exceptionSequence, storePc, unimplementedSequence};
+ghost use Rattle.exec_spec.specs.EventFrames.{interruptSequence, exceptionSequence, storePc, unimplementedSequence};
 
 // An interrupt through the vector at an offset.
 pub fn interrupt_sequence(m: &mut [u8], journal: &mut Journal, r: &mut Bank, vector: u32) -> u64

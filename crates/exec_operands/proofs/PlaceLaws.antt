@@ -16,7 +16,7 @@ use Rattle.access_spec.specs.Journal.{Journaled, logging}
 use Rattle.machine.specs.Registers.{Bank, word}
 use Rattle.machine.specs.Cache.{Cache}
 use Rattle.machine.specs.Status.{cpu}
-use Rattle.datapath.specs.Parts.{ok, onward, _>>=_, done}
+use Rattle.datapath.specs.Parts.{ok, onward, done}
 use Rattle.datapath.specs.Data.{readData}
 use Rattle.datapath.specs.Code.{valueOut}
 use Rattle.datapath.proofs.BindLaws.{bind}

@@ -13,7 +13,7 @@ use Rattle.machine.specs.Status.{Cpu, cpu, reg, with, spCurrent, cacheOn}
 use Rattle.machine.proofs.TestLaws.{test-held, test-failed}
 use Rattle.exec_spec.specs.Operands.{stackAddress}
 use Rattle.exec_spec.specs.Control.{nextPc, pcAdvanced, withCsp, released}
-use Rattle.exec_spec.specs.Frames.{restoredCsp}
+use Rattle.exec_spec.specs.EventFrames.{restoredCsp}
 
 pub advances : (b : Bank) (q : Cache) (n v : ℕ) → v ≡ nextPc (cpu b []) n → cpu (set b pc v) q ≡ pcAdvanced (cpu b q) n
 advances b q n v e = rw e

@@ -8,7 +8,7 @@ use Rattle.word.specs.Sums.{plusOf}
 use Rattle.machine.specs.Registers.{Bank, word, unreserved, isp, pc, psw, shad, sp, config, traceDue, timer1Due, timer2Due}
 use Rattle.machine.specs.Cache.{Cache}
 use Rattle.machine.specs.Status.{Cpu, cpu, with, csp, spCurrent}
-use Rattle.exec_spec.specs.Frames.{returned, reset}
+use Rattle.exec_spec.specs.EventFrames.{returned, reset}
 
 -- one register
 pub stored : (b : Bank) (q : Cache) (k v x : ℕ) → v ≡ x → cpu (set b k v) q ≡ cpu (set b k x) q

@@ -15,7 +15,7 @@ ghost use Rattle.machine.specs.Status.{cpu};
 ghost use Rattle.datapath.specs.Contracts.{Becomes};
 ghost use Rattle.exec_spec.specs.Operands.{stackAddress};
 ghost use Rattle.exec_spec.specs.Control.{jumped as jumpedOf, nextPc, pcAdvanced as advancedOf, withCsp, released as releasedOf};
-ghost use Rattle.exec_spec.specs.Frames.{restoredCsp};
+ghost use Rattle.exec_spec.specs.EventFrames.{restoredCsp};
 
 // PC at an address, a multiple of two.
 pub fn jumped(b: &mut Bank, a: u32)

@@ -32,8 +32,8 @@ unfoldable pub checkDivisor : Cpu → Operation → ℕ → Program (Out Cpu)
 checkDivisor c op x = cond (divides op && eqb x 0) (ret (stop zeroDivide c)) (done c)
 
 -- the source's value, the destination's place and its value, then the rest
-abbrev pub reading : Cpu → Wide → Operand → Operand → (ℕ → Place → ℕ → Program (Out Cpu)) → Program (Out Cpu)
-reading c w s d f = do
+abbrev pub withOperands : Cpu → Wide → Operand → Operand → (ℕ → Place → ℕ → Program (Out Cpu)) → Program (Out Cpu)
+withOperands c w s d f = do
   x ← readOperand c w s
   p ← locate c w d
   y ← readPlace c p
@@ -51,7 +51,7 @@ computeWith c op p x y = do
   putResult c p (operate op y x)
 
 unfoldable pub compute : Cpu → Wide → Operation → Operand → Operand → Program (Out Cpu)
-compute c w op s d = reading c w s d (λ x p y. computeWith c op p x y)
+compute c w op s d = withOperands c w s d (λ x p y. computeWith c op p x y)
 
 -- the same with a trailing 3: "the sum is placed in .. the Accumulator"
 abbrev pub accumulateResult : Cpu → Result → Program (Out Cpu)
@@ -65,7 +65,7 @@ accumulateWith c op x y = do
   accumulateResult c (operate op y x)
 
 unfoldable pub accumulate : Cpu → Wide → Operation → Operand → Operand → Program (Out Cpu)
-accumulate c w op s d = reading c w s d (λ x p y. accumulateWith c op x y)
+accumulate c w op s d = withOperands c w s d (λ x p y. accumulateWith c op x y)
 
 -- ADDI, ANDI, ORI: "The original value of dst is placed in the accumulator", after dst; no flag changes
 abbrev pub interlockWith : Cpu → Operation → Place → ℕ → ℕ → Program (Out Cpu)
@@ -74,11 +74,11 @@ interlockWith c op p x y = do
   writeAccumulator c y
 
 unfoldable pub interlock : Cpu → Wide → Operation → Operand → Operand → Program (Out Cpu)
-interlock c w op s d = reading c w s d (λ x p y. interlockWith c op p x y)
+interlock c w op s d = withOperands c w s d (λ x p y. interlockWith c op p x y)
 
 -- CMP
 unfoldable pub compare : Cpu → Wide → Relation → Operand → Operand → Program (Out Cpu)
-compare c w r s d = reading c w s d (λ x p y. done (withFlag c (related r x y)))
+compare c w r s d = withOperands c w s d (λ x p y. done (withFlag c (related r x y)))
 
 -- TADD, TSUB: the flags are set, then the result is stored, unless F is set
 abbrev pub taggedOver : Tagged → ℕ → ℕ
@@ -109,7 +109,7 @@ abbrev pub tagged : Bool → Cpu → ℕ → ℕ → Tagged
 tagged minus c y x = taggedWith minus (reg c psw) y x
 
 unfoldable pub computeTagged : Cpu → Wide → Bool → Operand → Operand → Program (Out Cpu)
-computeTagged c w minus s d = reading c w s d (λ x p y. storeTagged c (tagged minus c y x) p)
+computeTagged c w minus s d = withOperands c w s d (λ x p y. storeTagged c (tagged minus c y x) p)
 
 -- MOV
 abbrev pub moveTo : Cpu → Wide → Operand → ℕ → Program (Out Cpu)

@@ -34,7 +34,7 @@ use Rattle.exec_spec.specs.Alu.{pswBit}
 use Rattle.exec_spec.specs.Dyadic as two
 use Rattle.exec_spec.specs.Control.{jump, jumpIf, call, loadAddress, return, released, testBit, withGuard, pcAdvanced}
 use Rattle.exec_spec.specs.Stack.{enter, catch}
-use Rattle.exec_spec.specs.Frames.{kcall, kret, cret, privileged}
+use Rattle.exec_spec.specs.EventFrames.{kcall, kret, cret, privileged}
 
 -- an instruction without its encoding
 pub data Normal : Type 0 where

@@ -3,5 +3,5 @@ pub mod Alu
 pub mod Dyadic
 pub mod Control
 pub mod Stack
-pub mod Frames
+pub mod EventFrames
 pub mod Execute

@@ -21,7 +21,7 @@ use Rattle.datapath.specs.Data.{readFrame}
 use Rattle.datapath.specs.Code.{cpuOut}
 use Rattle.datapath.proofs.PartLaws.{ended-goes, ended-stops}
 use Rattle.exec_spec.specs.Stack.{catchTo}
-use Rattle.exec_spec.specs.Frames.{restoredRegime, cretFill, cret, returned, cretCaught, cretFrom, cretAfter}
+use Rattle.exec_spec.specs.EventFrames.{restoredRegime, cretFill, cret, returned, cretCaught, cretFrom, cretAfter}
 use Rattle.exec_flow.proofs.EndLaws.{finished, loaded-on, load-stopped}
 use Rattle.machine.proofs.BankLaws.{Made}
 

@@ -3,7 +3,7 @@ use crate::catches::catch_to;
 use access_spec::Journal;
 use datapath::RESETS;
 use datapath::data::read_frame;
-use exec_registers::frames::returned;
+use exec_registers::event_frames::returned;
 use machine::Bank;
 use machine::Quads;
 use machine::bits::SP_CURRENT;
@@ -21,7 +21,7 @@ use memory::answers::low32;
 use word::fields::bit;
 use word::sums::plus;
 ghost use Rattle.datapath.specs.Contracts.{Ends};
-ghost use Rattle.exec_spec.specs.Frames.{cretFill, cret as cretOf, cretCaught, cretFrom, cretAfter};
+ghost use Rattle.exec_spec.specs.EventFrames.{cretFill, cret as cretOf, cretCaught, cretFrom, cretAfter};
 
 // The cache filled to MSP t, in the regime that the PSW p restores, and MSP left there.
 fn cret_caught(

@@ -22,7 +22,7 @@ use Rattle.machine.specs.Registers.{Bank, word, pc}
 use Rattle.machine.specs.Cache.{Cache}
 use Rattle.machine.specs.Status.{Cpu, cpu, regime}
 use Rattle.access.specs.EffectFree.{EffectFree}
-use Rattle.datapath.specs.Parts.{ok, _>>=_}
+use Rattle.datapath.specs.Parts.{ok}
 use Rattle.datapath.specs.Text.{fetchText}
 use Rattle.exec_spec.specs.declared.Monadic.{Monadic}
 use Rattle.exec_spec.specs.declared.Task.{Task}

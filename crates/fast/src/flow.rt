@@ -28,6 +28,7 @@ use memory::answers::EXCEPTION;
 use memory::answers::low32;
 use word::Width;
 use word::fields::bit;
+use word::fields::clear_low;
 use word::sums::minus;
 use word::sums::plus;
 ghost use mathlib.Core.Path.{_≡_};
@@ -161,7 +162,7 @@ fn enter(m: &[u8], r: &mut Bank, mode: MonadicMode, v: u32, n: u32) -> bool
     if !cache_on(r) {
         return false;
     }
-    let a = stack_address(r, v) / 16 * 16;
+    let a = clear_low(stack_address(r, v), 4);
     if STACK_CACHE_BYTES < minus(r[MSP], a) {
         return false;
     }

@@ -45,7 +45,7 @@ pub(crate) fn parcel(m: &[u8], i: usize) -> u16
     requires { ⌜ i + 2 ≤ length (now m) ⌝ }
     ensures { λ x. ⌜ x ≡ parcelAt (now (m .entry)) i ⌝ }
 {
-    (number2(m[i], m[i + 1]) % 0x1_0000) as u16
+    (number2(m[i], m[i + 1]) & 0xFFFF) as u16
 }
 
 // The plan of the text there, whose first parcel is p.

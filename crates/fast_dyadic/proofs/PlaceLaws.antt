@@ -17,7 +17,7 @@ use Rattle.access_spec.specs.Program.{interpret}
 use Rattle.machine.specs.Registers.{Bank, word, config, pc}
 use Rattle.machine.specs.Cache.{Cache}
 use Rattle.machine.specs.Status.{cpu}
-use Rattle.datapath.specs.Parts.{ok, _>>=_, done}
+use Rattle.datapath.specs.Parts.{ok, done}
 use Rattle.datapath.specs.Data.{readData, writeData}
 use Rattle.exec_spec.specs.Operands.{ModeKind, absolute, offset, indirect, constant, modeKind, widthOf, expanded, stackAddress, inMemory, located, locate, readPlace, writePlace, absoluteOn}
 use Rattle.exec_alu.specs.declared.OperandKind.{OperandKind}

@@ -121,7 +121,8 @@ pub(crate) fn fast_finish(
     d: u32,
     x: u32,
 ) -> bool
-    ensures { λ z. ⌜ IfElse z ((isFast t ≡ true) × Gives m q r (λ c. afterSource c wide t (operand.General mode d) x) × StackAsBefore q r) (AllUnchanged m q r) ⌝ }
+    ensures { λ z. ⌜ IfElse z ((isFast t ≡ true) × Gives m q r (λ c. afterSource c wide t (operand.General mode d) x) × StackAsBefore q r)
+        (AllUnchanged m q r) ⌝ }
 {
     let k = fast_address(m, q, r, wide, mode, d);
     if NOWHERE <= k {

@@ -59,7 +59,8 @@ fn finish(
     d: u32,
     x: u32,
 ) -> bool
-    ensures { λ z. ⌜ IfElse z ((isFast t ≡ true) × Gives m q r (λ c. afterSource c wide t (operand.General mode d) x) × StackAsBefore q r) (AllUnchanged m q r) ⌝ }
+    ensures { λ z. ⌜ IfElse z ((isFast t ≡ true) × Gives m q r (λ c. afterSource c wide t (operand.General mode d) x) × StackAsBefore q r)
+        (AllUnchanged m q r) ⌝ }
 {
     if is_stack_word(mode) {
         let a = cached_address(r, d);

@@ -46,7 +46,8 @@ pub extern "C" fn hobbit_run(
     budget: u32,
     level: u32,
 ) -> HobbitAnswer
-    ensures { λ x. ⌜ runAnswer x (exitBlocks registers cache memory) ≡ runAnswerOf (runOf confined budget level (entryBoardIn registers cache memory)) ⌝ }
+    ensures { λ x. ⌜ runAnswer x (exitBlocks registers cache memory)
+        ≡ runAnswerOf (runOf confined budget level (entryBoardIn registers cache memory)) ⌝ }
 {
     let mut q = quads(*cache);
     let x = run_lent(memory, &mut q, registers, confined, budget, level);

@@ -39,7 +39,7 @@ use Rattle.isa.specs.Tables.{shortOf, dyadicTable, dyadicOf, monadicTable, mona
 use Rattle.isa.specs.Decode.{shortEntry, shortAnswer, shortInstruction, decodeShort}
 use Rattle.isa.specs.Encodings.{shortListed, dyadicListed}
 use Rattle.isa.specs.Encode.{rawField, sourcePlace, shortParcel, operandRaw, wideLength, prefixLength, modeCode}
-use Rattle.isa.proofs.Bounds.{operand-lt}
+use Rattle.isa.proofs.BoundLaws.{operand-lt}
 use Rattle.roundtrip.proofs.RowLaws as short-rows
 use Rattle.roundtrip.proofs.DyadicTableLaws as dyadics
 use Rattle.roundtrip.proofs.MonadicLaws as monadics

@@ -65,15 +65,15 @@ module _ (r w p s x d y n : ℕ) where
   unfolding shortIn
   short-none t = rw (not-true (isShort r w p s d) t) refl
 
-  pub short-at : (k e : ShortEntry) → not (isShort r w p s d) ≡ false → k ≡ shortOf (r / 1024 % 32) → e ≡ shortEntry k r
+  pub short-at : (o : ℕ) (k e : ShortEntry) → not (isShort r w p s d) ≡ false → o ≡ r / 1024 % 32 → k ≡ shortOf o → e ≡ shortEntry k r
       → (g : ShortEntry) (c : Encoded) → e ≡ g → c ≡ codeOf (shortNamed g r x y) n → c ≡ codeOf (shortIn r w p s x d y) n
   unfolding shortIn
-  short-at k e t ek ee g c h i = rw (not-false (isShort r w p s d) t, sym ek, sym ee, h) i
+  short-at o k e t eo ek ee g c h i = rw (not-false (isShort r w p s d) t, sym (ek ∙ ap shortOf eo), sym ee, h) i
 
-  pub short-row : (k e : ShortEntry) → not (isShort r w p s d) ≡ false → k ≡ shortOf (r / 1024 % 32) → e ≡ shortEntry k r
+  pub short-row : (o : ℕ) (k e : ShortEntry) → not (isShort r w p s d) ≡ false → o ≡ r / 1024 % 32 → k ≡ shortOf o → e ≡ shortEntry k r
       → (q : ShortRow) (a b : FieldMode) (c : Encoded) → e ≡ short.Row q a b → ((i j : FieldMode) → c ≡ codeOf (shortNamed (short.Row q i j) r x y) n)
       → c ≡ codeOf (shortIn r w p s x d y) n
-  short-row k e t ek ee q a b c h f = short-at k e t ek ee (short.Row q a b) c h (f a b)
+  short-row o k e t eo ek ee q a b c h f = short-at o k e t eo ek ee (short.Row q a b) c h (f a b)
 
 -- operand_in
 pub a-register : (k v : ℕ) → k ≡ 16 → Register v ≡ operandIn k v

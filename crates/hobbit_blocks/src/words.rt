@@ -25,6 +25,7 @@ use isa::ShortEntry;
 use isa::ShortInstruction;
 use isa::ShortRow;
 use isa::Wide;
+use word::fields::field;
 ghost use mathlib.Core.Path.{_≡_};
 ghost use Rattle.isa.specs.declared.FieldMode.{FieldMode};
 ghost use Rattle.isa.specs.declared.ShortEntry.the-variants as short;
@@ -55,7 +56,7 @@ fn short_code(r: u32, w: u32, p: u32, s: u32, x: u32, d: u32, y: u32, n: u32) ->
     if !((r < 0x8000) & (w == 0) & (p == 0) & (s == 0) & (d == 0)) {
         return Encoded::Refused(NO_CODE);
     }
-    let e = find_entry(find_short(r / 1024 % 32), r as u16);
+    let e = find_entry(find_short(field(r, 10, 5)), r as u16);
     match e {
         ShortEntry::Row(q, _, _) => row_code(q, r, x, y, n),
         ShortEntry::Stack => Encoded::Refused(NO_CODE),

@@ -14,7 +14,7 @@ use Rattle.exec_spec.specs.declared.Niladic.{Niladic}
 use Rattle.exec_spec.specs.declared.Niladic.the-variants as niladic
 use Rattle.machine.specs.Bits.{flagBit, carryBit, overflowBit}
 use Rattle.exec_spec.specs.Alu.{pswBit}
-use Rattle.exec_spec.specs.Frames.{kret, cret}
+use Rattle.exec_spec.specs.EventFrames.{kret, cret}
 use Rattle.exec_spec.specs.Execute.{Normal, twoOperands, oneOperand, noOperand, normal, executeMonadic, executeNiladic, executeNormal, execute}
 use Rattle.run_spec.specs.Run.{isKcall}
 use Rattle.invariants.proofs.RuleLaws.{Rules, Value, Part, bind, more, gives}

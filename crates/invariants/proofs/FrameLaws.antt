@@ -12,7 +12,7 @@ use Rattle.machine.specs.Registers.{config, isp, msp, pc, psw, shad, sp, traceD
 use Rattle.machine.specs.Status.{Cpu, reg, with, spCurrent, isUser}
 use Rattle.datapath.specs.Parts.{Out}
 use Rattle.exec_spec.specs.Control.{jumped, nextPc}
-use Rattle.exec_spec.specs.Frames.{pushPair, pushFrame, throughVector, kcallVector, exceptionVector, restoredCsp, kcall, interruptSequence, exceptionSequence, storePc, unimplementedSequence, returned, kret, restoredRegime, cretFill, cret, privileged, reset, cretAfter, cretCaught, cretFrom}
+use Rattle.exec_spec.specs.EventFrames.{pushPair, pushFrame, throughVector, kcallVector, exceptionVector, restoredCsp, kcall, interruptSequence, exceptionSequence, storePc, unimplementedSequence, returned, kret, restoredRegime, cretFill, cret, privileged, reset, cretAfter, cretCaught, cretFrom}
 use Rattle.invariants.proofs.RuleLaws.{suits, Rules, Value, Part, bind, gives, stops, either}
 use Rattle.invariants.proofs.AccessLaws.{plus-value, minus-value, read-frame, write-frame, write-data}
 use Rattle.invariants.proofs.OperandLaws.{kept-word}

@@ -15,7 +15,7 @@ use Rattle.machine.specs.Registers.{config, psw, traceDue, timer1Due, timer2Due
 use Rattle.machine.specs.Registers as place
 use Rattle.machine.specs.Status.{Cpu, reg, with, isUser}
 use Rattle.datapath.specs.Parts.{Out, ok, stop, resets}
-use Rattle.exec_spec.specs.Frames.{exceptionSequence, reset}
+use Rattle.exec_spec.specs.EventFrames.{exceptionSequence, reset}
 use Rattle.exec_spec.specs.Execute.{normal}
 use Rattle.memory.specs.Exceptions.{traceException}
 use Rattle.step_spec.specs.Events.{Event, interrupt, timer1, timer2, trace, Due, none, due, dueOf, looked, take}

@@ -1,5 +1,6 @@
 // The instruction set as data: rows of the encodings lists, operand modes, instructions and answers.
-// What these mean is defined in specs/; the crates tables, decoder and encoder are the code.
+// What these mean is defined in specs/; the crates decode_tables, decode, encode_tables and encode are the code.
+pub mod fields;
 
 // A line of the encodings lists (section 3.3) at length 2: one parcel. The lines of CPU and FLUSHD are
 // no rows: the one is the `prefix` of another instruction, the other is unimplemented by its own page.

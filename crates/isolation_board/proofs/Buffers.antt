@@ -13,7 +13,7 @@ use Rattle.isolation_board.specs.Lines.{admitsLines, SameLines}
 use Rattle.isolation_board.specs.Buffers.{ConfinedBuffers}
 use Rattle.isolation_board.proofs.Lines.{Alike, alike, lines-same}
 
--- the board of a desk is that of the conversation
+-- the board that answers lines is that of the conversation
 answered-board : (n : ℕ) (t : List (List ℕ)) (a : Board) (o : Output) → linesOn n t (boardIo a o) .board ≡ conversation n t a .board
 unfolding linesOn conversation
 answered-board n [] a o = refl

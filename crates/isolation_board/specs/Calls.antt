@@ -30,7 +30,7 @@ pub record Reference : Type 0 where
 abbrev pub lentAt : {X : Type 0} → Reference → X → RefT X
 lentAt p x = record { ptr = p .ptr; name = p .name; now = x }
 
--- ---- `runs::running::run_lent`
+-- ---- `run::running::run_lent`
 
 -- the lifetimes and references of a call
 pub record RunPlaces : Type 0 where
@@ -54,7 +54,7 @@ RunLent p c m confined budget level x d n =
     left : Lasts run-lent.ended (p .lifetimes) arguments
     left = (n, (d .cache, (d .bank, (tt, (tt, (tt, tt))))))
 
--- ---- `conversation::exchanges::converse` and `finish`, of the board program's loop
+-- ---- `board_conversation::exchanges::converse` and `finish`, of the board program's loop
 
 pub record ExchangePlaces : Type 0 where
   pub lifetimes : Lfts 5

@@ -1,4 +1,4 @@
--- Demand 3 as a statement about the code: what `runs::running::run_lent`, which is frame 04, answers to every list of
+-- Demand 3 as a statement about the code: what `run::running::run_lent`, which is frame 04, answers to every list of
 -- confined runs, by the contract that it exports.
 -- Assumes nothing.
 use Prim.Native.Nat.{ℕ}

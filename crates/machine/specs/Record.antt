@@ -8,7 +8,7 @@ use lib.Dec.{eqb}
 use Rattle.machine.specs.declared.Machine.{Machine}
 use Rattle.machine.specs.declared.Reading.{Reading}
 use Rattle.machine.specs.Registers.{Bank, word, traceDue, timer1Due, timer2Due, nmiTaken}
-use Rattle.machine.specs.Registers.{goodBank, registerRefused, isRegisterPlace}
+use Rattle.machine.specs.Registers.{registerRefused, isRegisterPlace}
 use Rattle.machine.specs.Cache.{Cache, quadsOf, flatOf}
 use Rattle.machine.specs.Status.{Cpu, cpu}
 
@@ -48,10 +48,6 @@ machineOf b q =
 -- the cache at the start: sixteen quad-words of zeros
 abbrev pub zeroCache : Cache
 zeroCache = replicate 16 (replicate 4 0)
-
--- 0, or the refusal of a machine whose registers are bad
-abbrev pub refusalOf : Machine → ℕ
-refusalOf m = cond (goodBank (bankOf m)) 0 registerRefused
 
 -- ---- a register read
 

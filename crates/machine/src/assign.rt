@@ -1,6 +1,5 @@
-// Registers of a bank by their place in Table 1-1: set by frame 01, read; and the refusal of bad ones.
+// Registers of a bank by their place in Table 1-1: set by frame 01, and read.
 use crate::Bank;
-use crate::Machine;
 use crate::Reading;
 use crate::places::ID_PLACE;
 use crate::places::MSP;
@@ -8,25 +7,15 @@ use crate::places::MSP_PLACE;
 use crate::places::REGISTERS;
 use crate::places::SP;
 use crate::places::SP_PLACE;
-use crate::record::bank;
 use crate::registers::clean;
-use crate::registers::good_bank;
 use crate::registers::stack_held;
 ghost use mathlib.Core.Path.{_≡_};
 ghost use Prim.Native.Nat.{_<_};
 ghost use Rattle.machine.specs.Registers.{settable, assigned, setting, setRegister};
-ghost use Rattle.machine.specs.Record.{refusalOf, readingOf};
+ghost use Rattle.machine.specs.Record.{readingOf};
 
 // The refusal of a register.
 const REGISTER_REFUSED: u32 = 2;
-
-// 0, or refusal 2 where a reserved bit is set or MSP is not where it must be.
-pub fn refusal(m: Machine) -> u32
-    ensures { λ r. ⌜ r ≡ refusalOf m ⌝ }
-{
-    let b = bank(m);
-    if good_bank(&b) { 0 } else { REGISTER_REFUSED }
-}
 
 // Whether the register at place k of the bank takes a word: no reserved bit, and MSP not away from SP.
 fn takes(b: &Bank, k: u32, v: u32) -> bool

@@ -20,7 +20,7 @@ use Rattle.datapath.specs.Data.{readMemory, readData, writeMemory, writeData, r
 use Rattle.datapath.specs.Text.{fetchParcel, fetchParcels, fetchAfter, fetchText}
 use Rattle.exec_spec.specs.Operands.{located, locate, readPlace, readOperand, writePlace, checkRegisters}
 use Rattle.exec_spec.specs.Dyadic.{checkDivisor, compute, computeTagged, writeTagged, perform, dyadic}
-use Rattle.exec_spec.specs.Frames.{interruptSequence, pushPair, throughVector}
+use Rattle.exec_spec.specs.EventFrames.{interruptSequence, pushPair, throughVector}
 use Rattle.exec_spec.specs.Execute.{executeNormal, execute}
 use Rattle.step_spec.specs.Events.{take}
 use Rattle.step_spec.specs.Step.{Stepped, fetchInstruction, act, attempt, eventStep, finish, instructionStep, step}

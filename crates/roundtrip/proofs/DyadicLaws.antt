@@ -35,7 +35,7 @@ use Rattle.isa.specs.Decode.{operandValue, operandFound, modeEntry, bothFound, 
 use Rattle.isa.specs.Encodings.{dyadicListed}
 use Rattle.isa.specs.Encode.{withPrefix, operandCode, hasMode, fits, admits, operandRaw, dyadicText, dyadicHasCode, encodeDyadic, encodeAny, lengthOf, wideLength, prefixLength}
 use Rattle.roundtrip.specs.Unused.{registerClear}
-use Rattle.isa.proofs.Bounds.{opcode-lt, operand-lt}
+use Rattle.isa.proofs.BoundLaws.{opcode-lt, operand-lt}
 use Rattle.roundtrip.proofs.DyadicTableLaws.{fieldOf, operand-back, ruleOf, same-rule, row-back, RowThere, row-there, ModeThere, mode-there}
 
 -- ---- the first parcel

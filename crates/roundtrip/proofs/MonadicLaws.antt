@@ -27,7 +27,7 @@ use Rattle.isa.specs.declared.Instruction.the-variants as instruction
 use Rattle.isa.specs.declared.Decoded.the-variants.{Is, Illegal, Unimplemented}
 use Rattle.isa.specs.declared.Encoded.the-variants.{Parcels}
 use Rattle.isa.specs.Tables.{monadicOf, monadicModeOf}
-use Rattle.isa.proofs.Bounds.{subcode-lt, single-lt}
+use Rattle.isa.proofs.BoundLaws.{subcode-lt, single-lt}
 use Rattle.isa.specs.Legal.{monadicLegalOf}
 use Rattle.isa.specs.Decode.{monadicFound, monadicAnswer, decodeMonadic}
 use Rattle.isa.specs.Encodings.{monadicListed}

@@ -18,7 +18,7 @@ use Rattle.isa.specs.Encodings.{dyadicListed, monadicListed}
 use Rattle.isa.specs.Encode.{coded, withPrefix, text3, dyadicText, operandCode, operandRaw, dyadicHasCode, encodeDyadic, monadicCode, takes, encodeMonadic}
 use Rattle.roundtrip.specs.Unused.{parcelsOf}
 use Rattle.roundtrip.proofs.LengthLaws.{bare-three, bare-five, prefixed-three, prefixed-five, three-dyadic, three-monadic}
-use Rattle.isa.proofs.Bounds.{opcode-lt, subcode-lt, operand-lt, single-lt}
+use Rattle.isa.proofs.BoundLaws.{opcode-lt, subcode-lt, operand-lt, single-lt}
 use Rattle.roundtrip.proofs.DyadicTableLaws.{fieldOf, opcode-pos}
 use Rattle.roundtrip.proofs.DyadicLaws as dyadic
 use Rattle.roundtrip.proofs.MonadicLaws as monadic

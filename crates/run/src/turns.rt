@@ -27,7 +27,7 @@ ghost use Prim.Native.Nat.{_%_};
 ghost use lib.ListN.{length};
 ghost use Rattle.memory.specs.Answers.{answerOf};
 ghost use Rattle.memory.specs.Bytes.{Memory};
-ghost use Rattle.access_spec.specs.Journal.{undo as undoOf};
+ghost use Rattle.access_spec.specs.Journal.{journalWords, undo as undoOf};
 ghost use Rattle.machine.specs.Registers.{word, config};
 ghost use Rattle.machine.specs.Status.{isUser};
 ghost use Rattle.datapath.specs.Contracts.{entryCpu, exitCpu, Becomes};
@@ -41,6 +41,9 @@ ghost use Rattle.run.specs.Code.{turned, attemptEnded};
 
 // A turn that stops answers its stop times this, and its code; 0 goes on.
 pub(crate) const STOP: u64 = 0x1_0000_0000;
+
+// An attempt that answers less has finished its instruction; the answer says what tracing makes of it.
+const FINISHED: u64 = 3;
 
 // Stop 01 with refusal 4, and stop 02.
 const REFUSED_STACK: u64 = STOP + 4;
@@ -80,8 +83,8 @@ fn count_turn(r: &mut Bank, bank: &Bank, completed: bool)
 
 // Kind 03: events are taken.
 fn turn(m: &mut [u8], journal: &mut Journal, q: &mut Quads, r: &mut Bank, level: u32) -> u64
-    requires { ⌜ (length (now m) % 4 ≡ 0) × (length (now journal) ≡ 201) ⌝ }
-    ensures { λ y. ⌜ (turned y (exitBoard m q r) ≡ turnFor level (entryBoard m q r)) × (length (now (journal .exit)) ≡ 201) ⌝ }
+    requires { ⌜ (length (now m) % 4 ≡ 0) × (length (now journal) ≡ journalWords) ⌝ }
+    ensures { λ y. ⌜ (turned y (exitBoard m q r) ≡ turnFor level (entryBoard m q r)) × (length (now (journal .exit)) ≡ journalWords) ⌝ }
 {
     let bank = *r;
     let cache = *q;
@@ -97,7 +100,7 @@ fn end_attempt(q: &mut Quads, r: &mut Bank, bank: &Bank, cache: &Quads, level: u
     ensures { λ y. ⌜ ((m : Memory) → turned y (board (exitCpu q r) m)
         ≡ attemptEnded (entryCpu cache bank) (lookedOf level (entryCpu cache bank)) (confinedOut (answerOf x) (now (r .entry)) (now (q .entry))) m) ⌝ }
 {
-    if x < 3 {
+    if x < FINISHED {
         trace_falls(r, traces_at(bank[PSW], low32(x)));
         count_turn(r, bank, true);
         return 0;
@@ -119,8 +122,8 @@ fn confined_turn(
     r: &mut Bank,
     level: u32,
 ) -> u64
-    requires { ⌜ (length (now m) % 4 ≡ 0) × (length (now journal) ≡ 201) ⌝ }
-    ensures { λ y. ⌜ (turned y (exitBoard m q r) ≡ confinedTurn level (entryBoard m q r)) × (length (now (journal .exit)) ≡ 201) ⌝ }
+    requires { ⌜ (length (now m) % 4 ≡ 0) × (length (now journal) ≡ journalWords) ⌝ }
+    ensures { λ y. ⌜ (turned y (exitBoard m q r) ≡ confinedTurn level (entryBoard m q r)) × (length (now (journal .exit)) ≡ journalWords) ⌝ }
 {
     let bank = *r;
     let cache = *q;
@@ -144,8 +147,8 @@ pub(crate) fn take_turn(
     confined: bool,
     level: u32,
 ) -> u64
-    requires { ⌜ (length (now m) % 4 ≡ 0) × (length (now journal) ≡ 201) ⌝ }
-    ensures { λ y. ⌜ (turned y (exitBoard m q r) ≡ turnOf confined level (entryBoard m q r)) × (length (now (journal .exit)) ≡ 201) ⌝ }
+    requires { ⌜ (length (now m) % 4 ≡ 0) × (length (now journal) ≡ journalWords) ⌝ }
+    ensures { λ y. ⌜ (turned y (exitBoard m q r) ≡ turnOf confined level (entryBoard m q r)) × (length (now (journal .exit)) ≡ journalWords) ⌝ }
 {
     if fast_turn(m, q, r, level) {
         return 0;

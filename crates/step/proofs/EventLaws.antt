@@ -17,7 +17,7 @@ use Rattle.machine.specs.Cache.{Cache}
 use Rattle.machine.specs.Status.{Cpu, cpu}
 use Rattle.datapath.specs.Parts.{Out}
 use Rattle.datapath.specs.Code.{cpuOut}
-use Rattle.exec_spec.specs.Frames.{interruptSequence, exceptionSequence, reset}
+use Rattle.exec_spec.specs.EventFrames.{interruptSequence, exceptionSequence, reset}
 use Rattle.step_spec.specs.Events.{Event, interrupt, timer1, timer2, trace, Due, none, due, isPending, priority, dueOf, take, takenOf, vectorOf}
 use Rattle.step_spec.specs.Step.{stepped, settled, eventStep, exceptionStep, instructionStep, stepFor}
 use Rattle.step_pending.specs.Dues.{dueCode, eventFrom, dueFrom, isTrace}

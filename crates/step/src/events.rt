@@ -2,7 +2,7 @@
 use access_spec::Journal;
 use exec_event_frames::sequences::exception_sequence;
 use exec_event_frames::sequences::interrupt_sequence;
-use exec_registers::frames::reset;
+use exec_registers::event_frames::reset;
 use machine::Bank;
 use memory::answers::EXCEPTION;
 use memory::exceptions::TRACE;

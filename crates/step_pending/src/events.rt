@@ -14,7 +14,7 @@ ghost use mathlib.Core.Path.{_≡_};
 ghost use Prim.Native.Nat.{_%_, _≤_};
 ghost use Rattle.word.specs.Fields.{fieldOf};
 ghost use Rattle.datapath.specs.Contracts.{Becomes};
-ghost use Rattle.step_spec.specs.Events.{dueOf, looked as lookedOf};
+ghost use Rattle.step_spec.specs.Events.{dueOf, looked as lookedOf, takenOf, vectorOf};
 ghost use Rattle.step_spec.specs.Step.{traceFalls};
 ghost use Rattle.step_pending.specs.Dues.{dueCode, nothingDue, eventFrom};
 

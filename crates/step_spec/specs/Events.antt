@@ -8,7 +8,7 @@ use Rattle.access_spec.specs.Program.{Program}
 use Rattle.machine.specs.Registers.{Bank, word, psw, traceDue, timer1Due, timer2Due, nmiTaken}
 use Rattle.machine.specs.Status.{Cpu, with}
 use Rattle.datapath.specs.Parts.{Out}
-use Rattle.exec_spec.specs.Frames.{interruptSequence, exceptionSequence}
+use Rattle.exec_spec.specs.EventFrames.{interruptSequence, exceptionSequence}
 use Rattle.memory.specs.Exceptions.{traceException}
 use Rattle.machine.specs.Bits.{priorityLow, priorityBits}
 

@@ -13,7 +13,7 @@ use Rattle.machine.specs.Registers.{config, psw, traceDue, sp, msp, stackHeld}
 use Rattle.machine.specs.Status.{Cpu, reg, with, isUser}
 use Rattle.datapath.specs.Parts.{Out, ok, stop, done, resets, _>>=_}
 use Rattle.datapath.specs.Text.{fetchText}
-use Rattle.exec_spec.specs.Frames.{exceptionSequence, unimplementedSequence, reset}
+use Rattle.exec_spec.specs.EventFrames.{exceptionSequence, unimplementedSequence, reset}
 use Rattle.exec_spec.specs.Execute.{normal, execute, Traced, always, atJumps, never, traced}
 use Rattle.step_spec.specs.Events.{Event, Due, none, due, dueOf, looked, take}
 use Rattle.step_spec.specs.Timers.{counted}

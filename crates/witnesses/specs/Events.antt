@@ -17,7 +17,7 @@ use Rattle.datapath.specs.Moves.{fillWord, fillQuad, fill}
 use Rattle.datapath.specs.Parts.{onward, _>>=_, request, parcelRequest, frameRequest}
 use Rattle.datapath.specs.Text.{fetchParcel, fetchParcels, fetchAfter, fetchText}
 use Rattle.exec_spec.specs.Stack.{checkMsp, catchTo}
-use Rattle.exec_spec.specs.Frames.{pushPair, pushFrame, throughVector, interruptSequence, exceptionSequence, privileged, kret, cretFill, cret, reset, cretAfter, cretCaught, cretFrom}
+use Rattle.exec_spec.specs.EventFrames.{pushPair, pushFrame, throughVector, interruptSequence, exceptionSequence, privileged, kret, cretFill, cret, reset, cretAfter, cretCaught, cretFrom}
 use Rattle.exec_spec.specs.Execute.{executeNiladic, executeNormal, execute}
 use Rattle.step_spec.specs.Events.{take}
 use Rattle.step_spec.specs.Timers.{counted}

@@ -18,7 +18,7 @@ use Rattle.datapath.specs.Text.{fetchParcel, fetchParcels, fetchAfter, fetchTex
 use Rattle.exec_spec.specs.Operands.{located, locate, readPlace, readOperand, writePlace, checkRegisters}
 use Rattle.exec_spec.specs.Dyadic.{move, perform, dyadic}
 use Rattle.exec_spec.specs.Control.{readWord32, jump, readThrough}
-use Rattle.exec_spec.specs.Frames.{pushPair, pushFrame, throughVector, kcall, exceptionSequence, reset}
+use Rattle.exec_spec.specs.EventFrames.{pushPair, pushFrame, throughVector, kcall, exceptionSequence, reset}
 use Rattle.exec_spec.specs.Execute.{executeMonadic, executeNormal, execute}
 use Rattle.step_spec.specs.Timers.{counted}
 use Rattle.step_spec.specs.Step.{fetchInstruction, act, attempt, exceptionStep, finish, instructionStep, step}

@@ -20,7 +20,7 @@ use Rattle.datapath.specs.Text.{fetchParcel, fetchParcels, fetchAfter, fetchPre
 use Rattle.exec_spec.specs.Operands.{located, locate, readPlace, readOperand, writeRegister, writePlace, writeAccumulator, checkRegisters}
 use Rattle.exec_spec.specs.Dyadic.{interlock, move, perform, dyadic}
 use Rattle.exec_spec.specs.Control.{readWord32, readThrough}
-use Rattle.exec_spec.specs.Frames.{pushPair, pushFrame, throughVector, kcall}
+use Rattle.exec_spec.specs.EventFrames.{pushPair, pushFrame, throughVector, kcall}
 use Rattle.exec_spec.specs.Stack.{stackTarget, checkMsp, enterOffset, enterAt, enter, enterClipped}
 use Rattle.exec_spec.specs.Execute.{executeMonadic, executeNormal, execute}
 use Rattle.step_spec.specs.Timers.{counted}

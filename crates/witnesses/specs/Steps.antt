@@ -19,7 +19,7 @@ use Rattle.exec_spec.specs.Operands.{located, locate, readPlace, readOperand, w
 use Rattle.exec_spec.specs.Dyadic.{checkDivisor, compute, accumulate, interlock, move, perform, dyadic}
 use Rattle.exec_spec.specs.Control.{readWord32, jump, call, callTo, readThrough}
 use Rattle.exec_spec.specs.Stack.{stackTarget, enterPlain, enterAt, enter}
-use Rattle.exec_spec.specs.Frames.{pushPair, pushFrame, throughVector, exceptionSequence, storePc, unimplementedSequence}
+use Rattle.exec_spec.specs.EventFrames.{pushPair, pushFrame, throughVector, exceptionSequence, storePc, unimplementedSequence}
 use Rattle.exec_spec.specs.Execute.{executeMonadic, executeNormal, execute}
 use Rattle.step_spec.specs.Timers.{counted}
 use Rattle.step_spec.specs.Step.{fetchInstruction, act, attempt, exceptionStep, finish, instructionStep, step}

@@ -2,7 +2,7 @@ pub mod MatchLaws
 pub mod CaseLaws
 pub mod FieldLaws
 mod SumLaws
-mod Flags
+mod FlagLaws
 pub mod WordLaws
 pub mod MeaningLaws
 pub mod ProductLaws

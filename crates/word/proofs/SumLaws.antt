@@ -18,7 +18,7 @@ use Rattle.word.specs.declared.Width.the-variants.{Byte, Half, Word}
 use Rattle.word.specs.Widths.{bitsOf, signExtendOf}
 use Rattle.word.proofs.WidthLaws.{bits-le, sign-extend-by-shifts}
 use Rattle.word.proofs.WordLaws.{shr-lt}
-use Rattle.word.proofs.Flags.{wrapped-below, sum-overflow, difference-overflow}
+use Rattle.word.proofs.FlagLaws.{wrapped-below, sum-overflow, difference-overflow}
 use Rattle.word.specs.Tags.{badTagOf, checkedOf, taggedOf}
 
 -- sums and differences: v has wrapped, x and y tell which signs differ

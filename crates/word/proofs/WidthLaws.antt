@@ -15,12 +15,7 @@ use Rattle.word.specs.Widths.{bitsOf, truncateOf, signExtendOf}
 use Rattle.word.proofs.CaseLaws.{by-test}
 use Rattle.word.proofs.WordLaws.{low-lt}
 
--- every width has from 1 to 32 bits, so that each law below holds of it
-pub bits-pos : (w : Width) → 0 < bitsOf w
-bits-pos Byte = omega arith
-bits-pos Half = omega arith
-bits-pos Word = omega arith
-
+-- every width has at most 32 bits, so that each law below holds of it
 pub bits-le : (w : Width) → bitsOf w ≤ 32
 bits-le Byte = omega arith
 bits-le Half = omega arith

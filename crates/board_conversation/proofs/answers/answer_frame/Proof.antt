@@ -6,25 +6,25 @@ use Rattle.board_conversation.proofs.answers.answer_frame.Tie as tie
 enum-known-frame : tie.Need-enum-known-frame
 enum-known-frame c = search needs
 
-answer-set-requires : tie.Need-answer-line-set-requires
+answer-set-requires : tie.Need-answer-set-requires
 answer-set-requires c κs = search needs
 
 enum-known-frame-2 : tie.Need-enum-known-frame-2
 enum-known-frame-2 c = search needs
 
-answer-store-requires : tie.Need-answer-line-store-requires
+answer-store-requires : tie.Need-answer-store-requires
 answer-store-requires c κs = search needs
 
 enum-known-frame-3 : tie.Need-enum-known-frame-3
 enum-known-frame-3 c = search needs
 
-answer-run-requires : tie.Need-answer-line-run-requires
+answer-run-requires : tie.Need-answer-run-requires
 answer-run-requires c κs = search needs
 
 enum-known-frame-4 : tie.Need-enum-known-frame-4
 enum-known-frame-4 c = search needs
 
-answer-run-requires-2 : tie.Need-answer-line-run-requires-2
+answer-run-requires-2 : tie.Need-answer-run-requires-2
 answer-run-requires-2 c κs = search needs
 
 enum-told : tie.Need-enum-told

@@ -12,7 +12,7 @@ is-long-run-requires c κs = search needs
 returns : tie.Need-returns
 returns c = search (needs, line-waits)
 
-answer-frame-requires : tie.Need-answer-line-frame-requires
+answer-frame-requires : tie.Need-answer-frame-requires
 answer-frame-requires c κs = search needs
 
 same-length : tie.Need-same-length

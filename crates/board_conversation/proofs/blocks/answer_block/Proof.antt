@@ -26,14 +26,14 @@ loop-holds c = search (needs, answering-none)
 wrapping-add-u32-requires : tie.Need-wrapping-add-u32-requires Inv-loop μ-loop
 wrapping-add-u32-requires c κs = search needs
 
-sub-tell : tie.Need-sub-answer-line Inv-loop μ-loop
-sub-tell c = search needs
+sub-answer-line : tie.Need-sub-answer-line Inv-loop μ-loop
+sub-answer-line c = search needs
 
-part-tell-start : tie.Need-part-answer-line-start Inv-loop μ-loop
-part-tell-start c = search needs
+part-answer-line-start : tie.Need-part-answer-line-start Inv-loop μ-loop
+part-answer-line-start c = search needs
 
-part-tell-end : tie.Need-part-answer-line-end Inv-loop μ-loop
-part-tell-end c = search needs
+part-answer-line-end : tie.Need-part-answer-line-end Inv-loop μ-loop
+part-answer-line-end c = search needs
 
 answer-line-requires : tie.Need-answer-line-requires Inv-loop μ-loop
 answer-line-requires c κs = search needs
@@ -79,9 +79,9 @@ answer-block-spec =
     newline-requires
     loop-holds
     wrapping-add-u32-requires
-    sub-tell
-    part-tell-start
-    part-tell-end
+    sub-answer-line
+    part-answer-line-start
+    part-answer-line-end
     answer-line-requires
     same-length
     same-length-2

@@ -10,16 +10,16 @@ least-requires c κs = search needs
 least-requires-2 : tie.Need-least-requires-2
 least-requires-2 c κs = search needs
 
-sub-tell-block : tie.Need-sub-answer-line-block
-sub-tell-block c = search needs
+sub-answer-block : tie.Need-sub-answer-block
+sub-answer-block c = search needs
 
-part-tell-block-start : tie.Need-part-answer-line-block-start
-part-tell-block-start c = search needs
+part-answer-block-start : tie.Need-part-answer-block-start
+part-answer-block-start c = search needs
 
-part-tell-block-end : tie.Need-part-answer-line-block-end
-part-tell-block-end c = search needs
+part-answer-block-end : tie.Need-part-answer-block-end
+part-answer-block-end c = search needs
 
-answer-block-requires : tie.Need-answer-line-block-requires
+answer-block-requires : tie.Need-answer-block-requires
 answer-block-requires c κs = search needs
 
 add-from : tie.Need-add-from
@@ -63,9 +63,9 @@ converse-spec =
     (tie.spec
     least-requires
     least-requires-2
-    sub-tell-block
-    part-tell-block-start
-    part-tell-block-end
+    sub-answer-block
+    part-answer-block-start
+    part-answer-block-end
     answer-block-requires
     add-from
     same-length

@@ -15,14 +15,14 @@ returns c = search (needs, none-left)
 wrapping-add-u32-requires : tie.Need-wrapping-add-u32-requires
 wrapping-add-u32-requires c κs = search needs
 
-sub-tell : tie.Need-sub-answer-line
-sub-tell c = search needs
+sub-answer-line : tie.Need-sub-answer-line
+sub-answer-line c = search needs
 
-part-tell-start : tie.Need-part-answer-line-start
-part-tell-start c = search needs
+part-answer-line-start : tie.Need-part-answer-line-start
+part-answer-line-start c = search needs
 
-part-tell-end : tie.Need-part-answer-line-end
-part-tell-end c = search needs
+part-answer-line-end : tie.Need-part-answer-line-end
+part-answer-line-end c = search needs
 
 answer-line-requires : tie.Need-answer-line-requires
 answer-line-requires c κs = search needs
@@ -44,9 +44,9 @@ finish-spec =
     least-requires-2
     returns
     wrapping-add-u32-requires
-    sub-tell
-    part-tell-start
-    part-tell-end
+    sub-answer-line
+    part-answer-line-start
+    part-answer-line-end
     answer-line-requires
     same-length
     same-length-2

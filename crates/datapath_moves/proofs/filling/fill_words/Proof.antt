@@ -1,4 +1,3 @@
-use mathlib.Core.Path.{refl}
 use Rattle.datapath_moves.proofs.FillLaws.{words-stopped, words-filled}
 use borrow.Author.Needs.{needs}
 use Rattle.datapath_moves.proofs.filling.fill_words.Statement.{statement}

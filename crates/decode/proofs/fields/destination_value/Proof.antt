@@ -1,133 +1,16 @@
-use Rattle.decode.proofs.ShortLaws.{destination-is, destination-scaled, destination-relative, destination-filled}
+use Rattle.isa.proofs.FieldLaws.{low-small, value-of}
 use borrow.Author.Needs.{needs}
 use Rattle.decode.proofs.fields.destination_value.Statement.{statement}
 use Rattle.decode.proofs.fields.destination_value.Tie as tie
 
-enum-told : tie.Need-enum-told
-enum-told c = search needs
-
-enum-told-2 : tie.Need-enum-told-2
-enum-told-2 c = search needs
-
 low-requires : tie.Need-low-requires
 low-requires c κs = search needs
 
-extend-requires : tie.Need-extend-requires
-extend-requires c κs = search needs
-
-enum-told-3 : tie.Need-enum-told-3
-enum-told-3 c = search needs
-
-low-requires-2 : tie.Need-low-requires-2
-low-requires-2 c κs = search needs
-
-enum-told-4 : tie.Need-enum-told-4
-enum-told-4 c = search needs
-
-low-requires-3 : tie.Need-low-requires-3
-low-requires-3 c κs = search needs
-
-enum-told-5 : tie.Need-enum-told-5
-enum-told-5 c = search needs
-
-low-requires-4 : tie.Need-low-requires-4
-low-requires-4 c κs = search needs
-
-enum-told-6 : tie.Need-enum-told-6
-enum-told-6 c = search needs
-
-low-requires-5 : tie.Need-low-requires-5
-low-requires-5 c κs = search needs
-
-enum-told-7 : tie.Need-enum-told-7
-enum-told-7 c = search needs
-
-low-requires-6 : tie.Need-low-requires-6
-low-requires-6 c κs = search needs
-
-enum-told-8 : tie.Need-enum-told-8
-enum-told-8 c = search needs
-
-low-requires-7 : tie.Need-low-requires-7
-low-requires-7 c κs = search needs
-
-extend-requires-2 : tie.Need-extend-requires-2
-extend-requires-2 c κs = search needs
-
-enum-told-9 : tie.Need-enum-told-9
-enum-told-9 c = search needs
-
-low-requires-8 : tie.Need-low-requires-8
-low-requires-8 c κs = search needs
-
-enum-told-10 : tie.Need-enum-told-10
-enum-told-10 c = search needs
-
-low-requires-9 : tie.Need-low-requires-9
-low-requires-9 c κs = search needs
+field-value-requires : tie.Need-field-value-requires
+field-value-requires c κs = search (needs, low-small)
 
 returns : tie.Need-returns
-returns c = search needs
-
-returns-2 : tie.Need-returns-2
-returns-2 c = search (needs, destination-is)
-
-returns-3 : tie.Need-returns-3
-returns-3 c = search (needs, destination-is)
-
-returns-4 : tie.Need-returns-4
-returns-4 c = search (needs, destination-scaled)
-
-returns-5 : tie.Need-returns-5
-returns-5 c = search (needs, destination-scaled)
-
-returns-6 : tie.Need-returns-6
-returns-6 c = search (needs, destination-scaled)
-
-returns-7 : tie.Need-returns-7
-returns-7 c = search (needs, destination-scaled)
-
-returns-8 : tie.Need-returns-8
-returns-8 c = search (needs, destination-relative)
-
-returns-9 : tie.Need-returns-9
-returns-9 c = search (needs, destination-scaled)
-
-returns-10 : tie.Need-returns-10
-returns-10 c = search (needs, destination-filled)
+returns c = search (needs, value-of)
 
 pub destination-value-spec : {M : Type 1} → statement M
-destination-value-spec =
-    tie.close
-    (tie.spec
-    enum-told
-    enum-told-2
-    low-requires
-    extend-requires
-    enum-told-3
-    low-requires-2
-    enum-told-4
-    low-requires-3
-    enum-told-5
-    low-requires-4
-    enum-told-6
-    low-requires-5
-    enum-told-7
-    low-requires-6
-    enum-told-8
-    low-requires-7
-    extend-requires-2
-    enum-told-9
-    low-requires-8
-    enum-told-10
-    low-requires-9
-    returns
-    returns-2
-    returns-3
-    returns-4
-    returns-5
-    returns-6
-    returns-7
-    returns-8
-    returns-9
-    returns-10)
+destination-value-spec = tie.close (tie.spec low-requires field-value-requires returns)

@@ -1,6 +1,5 @@
 use mathlib.Core.Bool.{true, false}
 use Rattle.exec_dqm.proofs.ManyLaws.{aligned-by}
-use borrow.Author.Needs.{needs}
 use Rattle.exec_dqm.proofs.words.is_aligned.Statement.{statement}
 use Rattle.exec_dqm.proofs.words.is_aligned.Tie as tie
 

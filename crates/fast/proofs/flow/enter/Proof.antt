@@ -1,5 +1,5 @@
 use Prim.Native.Nat.{ℕ, _*_, _/_}
-use mathlib.Core.Path.{refl, sym, ap}
+use mathlib.Core.Path.{refl, sym, ap, _∙_}
 use borrow.Author.Tests.{not-false}
 use Rattle.word.proofs.CaseLaws.{not-both}
 use Rattle.fast.proofs.FlowLaws.{enter-gives}
@@ -22,8 +22,8 @@ returns-2 c = (λ h. not-both h, λ h. refl)
 stack-address-requires : tie.Need-stack-address-requires
 stack-address-requires c κs = search needs
 
-mul-a : tie.Need-mul-a
-mul-a c = search needs
+clear-low-requires : tie.Need-clear-low-requires
+clear-low-requires c κs = search needs
 
 element-copy-out-minus : tie.Need-element-copy-out-minus
 element-copy-out-minus c = search needs
@@ -59,7 +59,7 @@ stack-held-requires : tie.Need-stack-held-requires
 stack-held-requires c κs = search needs
 
 returns-5 : tie.Need-returns-5
-returns-5 c = (λ h. enter-gives (c .before .before .before .before .before .before .before .before .before .before .before .before .before .before .before .before .before .before .before .before .before .before .before .before .before .args .r .now) (c .before .before .before .before .before .before .before .before .before .before .before .before .before .before .before .before .before .before .before .before .before .before .before .before .before .args .mode) (c .before .before .before .before .before .before .before .before .before .before .before .before .before .before .before .before .before .before .before .before .before .before .before .before .before .args .v) (c .before .before .before .before .before .before .before .before .before .before .before .before .before .before .before .before .before .before .before .before .before .before .before .before .before .args .n) (c .before .before .before .before .before .before .before .before .before .before .before .before .before .before .before .before .before .before .before .before .before .before .before .is-stack .result) (c .before .before .before .before .before .before .before .before .before .before .before .before .before .before .before .before .before .before .before .before .before .before .before .is-stack .ensures) (not-false _ (c .before .before .before .before .before .before .before .before .before .before .before .before .before .before .before .before .before .before .before .before .before .before .if1 .left)) (c .before .before .before .before .before .before .before .before .before .before .before .before .before .before .before .before .before .before .before .before .cache-on .result) (c .before .before .before .before .before .before .before .before .before .before .before .before .before .before .before .before .before .before .before .before .cache-on .ensures) (not-false _ (c .before .before .before .before .before .before .before .before .before .before .before .before .before .before .before .before .before .before .before .if2 .left)) _ (ap (λ (z : ℕ). z / 16 * 16) (c .before .before .before .before .before .before .before .before .before .before .before .before .before .before .before .before .before .stack-address .ensures)) (c .before .before .before .before .before .before .before .before .before .before .before .before .before .before .before .minus .result) (c .before .before .before .before .before .before .before .before .before .before .before .before .before .before .before .minus .ensures) (c .before .before .before .before .before .before .before .before .before .before .before .before .before .before .if3 .left) (c .before .before .before .before .before .before .before .before .before .before .before .before .before .before .before .before .before .before .before .before .before .before .before .before .before .args .m .now) (c .before .before .before .before .before .before .before .before .before .before .before .before .check-store .result) (c .before .before .before .before .before .before .before .before .before .before .before .before .check-store .ensures) (c .before .before .before .before .before .before .before .before .before .before .before .if4 .left) _ (c .before .before .before .before .before .before .before .before .with-csp .ensures) _ _ (c .before .before .before .before .before .before .with-guard .ensures) (c .before .before .before .before .advance-pc .ensures) (c .before .stack-held .result) (c .before .stack-held .ensures) (c .if5 .taken), λ h. not-both (sym h))
+returns-5 c = (λ h. enter-gives (c .before .before .before .before .before .before .before .before .before .before .before .before .before .before .before .before .before .before .before .before .before .before .before .before .before .before .args .r .now) (c .before .before .before .before .before .before .before .before .before .before .before .before .before .before .before .before .before .before .before .before .before .before .before .before .before .before .args .mode) (c .before .before .before .before .before .before .before .before .before .before .before .before .before .before .before .before .before .before .before .before .before .before .before .before .before .before .args .v) (c .before .before .before .before .before .before .before .before .before .before .before .before .before .before .before .before .before .before .before .before .before .before .before .before .before .before .args .n) (c .before .before .before .before .before .before .before .before .before .before .before .before .before .before .before .before .before .before .before .before .before .before .before .before .is-stack .result) (c .before .before .before .before .before .before .before .before .before .before .before .before .before .before .before .before .before .before .before .before .before .before .before .before .is-stack .ensures) (not-false _ (c .before .before .before .before .before .before .before .before .before .before .before .before .before .before .before .before .before .before .before .before .before .before .before .if1 .left)) (c .before .before .before .before .before .before .before .before .before .before .before .before .before .before .before .before .before .before .before .before .before .cache-on .result) (c .before .before .before .before .before .before .before .before .before .before .before .before .before .before .before .before .before .before .before .before .before .cache-on .ensures) (not-false _ (c .before .before .before .before .before .before .before .before .before .before .before .before .before .before .before .before .before .before .before .before .if2 .left)) _ ((c .before .before .before .before .before .before .before .before .before .before .before .before .before .before .before .before .before .clear-low .ensures) ∙ ap (λ (z : ℕ). z / 16 * 16) (c .before .before .before .before .before .before .before .before .before .before .before .before .before .before .before .before .before .before .stack-address .ensures)) (c .before .before .before .before .before .before .before .before .before .before .before .before .before .before .before .minus .result) (c .before .before .before .before .before .before .before .before .before .before .before .before .before .before .before .minus .ensures) (c .before .before .before .before .before .before .before .before .before .before .before .before .before .before .if3 .left) (c .before .before .before .before .before .before .before .before .before .before .before .before .before .before .before .before .before .before .before .before .before .before .before .before .before .before .args .m .now) (c .before .before .before .before .before .before .before .before .before .before .before .before .check-store .result) (c .before .before .before .before .before .before .before .before .before .before .before .before .check-store .ensures) (c .before .before .before .before .before .before .before .before .before .before .before .if4 .left) _ (c .before .before .before .before .before .before .before .before .with-csp .ensures) _ _ (c .before .before .before .before .before .before .with-guard .ensures) (c .before .before .before .before .advance-pc .ensures) (c .before .stack-held .result) (c .before .stack-held .ensures) (c .if5 .taken), λ h. not-both (sym h))
 
 returns-6 : tie.Need-returns-6
 returns-6 c = (λ h. not-both h, λ h. refl)
@@ -73,7 +73,7 @@ enter-spec =
     cache-on-requires
     returns-2
     stack-address-requires
-    mul-a
+    clear-low-requires
     element-copy-out-minus
     minus-requires
     returns-3

@@ -21,7 +21,7 @@ ghost use Rattle.machine.specs.Status.{with, reg};
 ghost use Rattle.word.specs.Sums.{minusOf};
 ghost use Rattle.datapath.specs.Contracts.{Becomes};
 ghost use Rattle.exec_spec.specs.Control.{jumped as jumpedOf};
-ghost use Rattle.exec_spec.specs.Frames.{returned as returnedOf, reset as resetOf};
+ghost use Rattle.exec_spec.specs.EventFrames.{returned as returnedOf, reset as resetOf};
 
 // A frame of a quad-word on the interrupt stack.
 pub fn pushed(b: &mut Bank)

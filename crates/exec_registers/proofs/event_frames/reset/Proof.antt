@@ -1,7 +1,7 @@
 use Rattle.exec_registers.proofs.FrameLaws.{resets-bank}
 use borrow.Author.Needs.{needs}
-use Rattle.exec_registers.proofs.frames.reset.Statement.{statement}
-use Rattle.exec_registers.proofs.frames.reset.Tie as tie
+use Rattle.exec_registers.proofs.event_frames.reset.Statement.{statement}
+use Rattle.exec_registers.proofs.event_frames.reset.Tie as tie
 
 element-copy-out-b : tie.Need-element-copy-out-b
 element-copy-out-b c = search needs

@@ -1,7 +1,7 @@
 use Rattle.exec_registers.proofs.FrameLaws.{returned-to-isp, returned-to-sp}
 use borrow.Author.Needs.{needs}
-use Rattle.exec_registers.proofs.frames.returned.Statement.{statement}
-use Rattle.exec_registers.proofs.frames.returned.Tie as tie
+use Rattle.exec_registers.proofs.event_frames.returned.Statement.{statement}
+use Rattle.exec_registers.proofs.event_frames.returned.Tie as tie
 
 element-copy-out-plus : tie.Need-element-copy-out-plus
 element-copy-out-plus c = search needs

@@ -1,7 +1,7 @@
 use Rattle.exec_registers.proofs.FrameLaws.{stored-both}
 use borrow.Author.Needs.{needs}
-use Rattle.exec_registers.proofs.frames.vectored.Statement.{statement}
-use Rattle.exec_registers.proofs.frames.vectored.Tie as tie
+use Rattle.exec_registers.proofs.event_frames.vectored.Statement.{statement}
+use Rattle.exec_registers.proofs.event_frames.vectored.Tie as tie
 
 element-copy-out-masked : tie.Need-element-copy-out-masked
 element-copy-out-masked c = search needs

@@ -1,7 +1,7 @@
 use Rattle.exec_registers.proofs.FrameLaws.{stored-both}
 use borrow.Author.Needs.{needs}
-use Rattle.exec_registers.proofs.frames.pushed.Statement.{statement}
-use Rattle.exec_registers.proofs.frames.pushed.Tie as tie
+use Rattle.exec_registers.proofs.event_frames.pushed.Statement.{statement}
+use Rattle.exec_registers.proofs.event_frames.pushed.Tie as tie
 
 element-copy-out-minus : tie.Need-element-copy-out-minus
 element-copy-out-minus c = search needs

@@ -1,0 +1,25 @@
+// What an operand field of one parcel stands for (sections 1.6.1 and 3.3, Table 3-2).
+use crate::FieldMode;
+use word::widths::extend;
+ghost use mathlib.Core.Path.{_≡_};
+ghost use Prim.Native.Nat.{_<_};
+ghost use Rattle.isa.specs.Fields.{fieldSize, fieldValue};
+
+// The value of a field that was cut out of a parcel.
+pub fn field_value(mode: FieldMode, f: u32) -> u32
+    requires { ⌜ f < fieldSize mode ⌝ }
+    ensures { λ r. ⌜ r ≡ fieldValue mode f ⌝ }
+{
+    match mode {
+        FieldMode::Absent => 0,
+        FieldMode::Imm5 => extend(27, f),
+        FieldMode::Uimm5 => f,
+        FieldMode::Wai5 => f << 2,
+        FieldMode::Stk5 => f << 2,
+        FieldMode::Istk5 => f << 2,
+        FieldMode::Imm10 => f << 2,
+        FieldMode::Pcrel10 => extend(21, f << 1),
+        FieldMode::Stk8 => f << 4,
+        FieldMode::Fill8 => (f << 4) | 0xFFFF_F000,
+    }
+}
