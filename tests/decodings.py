@@ -1,5 +1,5 @@
 #!/usr/bin/env python3
-"""decodings.py <LISTING >crates/test_decoder/stdout: what the program disassemble prints for the parcels of a listing, which are
+"""decodings.py <LISTING >crates/test_decoder/stdout: what the program test_decoder prints for the parcels of a listing, which are
 those of crates/test_decoder/stdin. A line of the listing has the parcels, or -, and what they decode to, by hand or by another
 decoder: mnemonic, form=1|3|5, prefix=0|1, src=MODE:VALUE|-, dst=MODE:VALUE|-; or a word for what is no instruction. Opcodes and
 subcodes are those that tests/frames.py has from the encodings lists of section 3.3, modes those of Tables 1-21 to 1-23."""

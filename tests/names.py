@@ -1,7 +1,8 @@
 #!/usr/bin/env python3
 """Checks the names in docs/CLAIMS.md against the tree: what is cited exists, and every must-fail edit and every witness is
-cited; and the paths and functions that the other documents name (OTHERS). Prints what is missing and ends with status 1, else
-prints one line.
+cited; the paths and functions that the other documents name (OTHERS); and the tables of docs/ARCHITECTURE.md against
+crates.txt: every crate stands there, below those that it names. Prints what is missing and ends with status 1, else prints one
+line.
 
 Of what stands in backquotes: a path exists, `crate/edit` is an edit, `crate::module::function` a function of that module,
 `Record.field` and any other name a definition, theorem, field, function or type; of an expression, the names in it that are
@@ -30,7 +31,7 @@ def antt_names(text):
 
 def rattle_names(text):
     """Functions, types with their variants, constants and modules of a file of code."""
-    names = set(re.findall(r'\b(?:fn|struct|enum|const|mod) (\w+)', text))
+    names = set(re.findall(r'\b(?:fn|struct|enum|type|const|mod) (\w+)', text))
     for body in re.findall(r'^pub enum \w+ \{(.*?)^\}', text, re.M | re.S):
         names.update(re.findall(r'^ +(\w+)', body, re.M))
     return names
@@ -47,6 +48,24 @@ LIBRARY = {'List', 'requires'}          # of the kit: names and words that the c
 OTHERS = 'README.md', 'CONTRIBUTING.md', 'docs/ARCHITECTURE.md', 'docs/DECISIONS.md', 'bench/RESULTS.md'
 FOLDERS = {'specs/', 'src/', 'proofs/', 'CRATE/must-fail'}      # of any crate
 KNOWN = set().union(*ANTT.values(), *RATTLE.values()) | HEADER | LIBRARY | {path.name for path in CRATES.iterdir()}
+
+
+def layers():
+    """Crates that the tables of docs/ARCHITECTURE.md leave out, or have above one that they name."""
+    layout = (ROOT / 'docs' / 'ARCHITECTURE.md').read_text(encoding='utf-8').split('## Layers')[1].split('\n## ')[0]
+    order = [crate for row in re.findall(r'^\| ([a-z0-9_, ]+) \|', layout, re.M) for crate in row.split(', ')]
+    wrong = []
+    for line in (ROOT / 'crates.txt').read_text(encoding='utf-8').splitlines():
+        crate, colon, named = line.partition(':')
+        if not colon or crate.startswith('#'):
+            continue
+        if crate not in order:
+            wrong.append('%s: not in the tables of docs/ARCHITECTURE.md' % crate)
+            continue
+        above = order[:order.index(crate)]
+        wrong += ['%s: above %s, which it names, in docs/ARCHITECTURE.md' % (crate, other)
+                  for other in named.split() if other in order and other not in above]
+    return wrong
 
 
 def located(path):
@@ -111,7 +130,7 @@ def main():
     claims = (ROOT / 'docs' / 'CLAIMS.md').read_text(encoding='utf-8')
     cited = re.findall(r'`([^`]+)`', claims)
     wrong = ['%s: not in the tree' % part for name in cited for part in missing(name)]
-    wrong += [row for document in OTHERS for row in misplaced(document)]
+    wrong += layers() + [row for document in OTHERS for row in misplaced(document)]
     # names directly before a path
     for names, path in re.findall(r'((?:`[^`]+`(?:,? and |, )?)+) \(`([^`]+\.antt|[^`]+/specs)`', claims):
         for name in re.findall(r"`([\w'-]+)`", names):

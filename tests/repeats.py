@@ -1,8 +1,8 @@
 #!/usr/bin/env python3
 """repeats.py [LINES]: what stands twice, and what nothing uses. Prints a row for each and ends with status 1 if there is one.
 
-repeated   LINES (10) or more equal lines in two places of specs/, src/ and the law files proofs/*.antt. Imports, comments and
-           thin lines (a bracket, a word of three letters) don't count. Proof.antt files are left out: their needs have a form
+repeated   LINES (10) or more equal lines in two places of specs/, src/ and the law files proofs/*.antt. Imports, comments,
+           parameters and thin lines (a bracket, a word of three letters) don't count. Proof.antt files are left out: their needs have a form
            of their own. ALLOWED names the runs that may stand, each with its reason.
 uncited    a name of specs/*.antt or proofs/*.antt that stands nowhere but in its own definition: not in its file, not in a
            file that imports its module, not in tests/, not in backquotes in docs/. Imports alone don't count. Fields and
@@ -19,6 +19,10 @@ CRATES = ROOT / 'crates'
 
 # (file, other file): why the same lines stand in both; paths from crates/ on
 ALLOWED = {
+    ('decode_tables/src/legal.rt', 'decode_tables/src/legal.rt'): 'matches over all modes, with an answer in every arm',
+    ('decode_tables/src/legal.rt', 'fast_dyadic/src/cache_words.rt'): 'the same',
+    ('decode_tables/src/legal.rt', 'exec_dqm/src/quads.rt'): 'the same; one function for both cost instructions in a step',
+    ('exec_event_frames/src/kernel.rt', 'exec_stack/src/returns.rt'): 'KRET and CRET read PC and PSW of the same frame',
 }
 
 # files whose theorems are for readers and cited by nothing but a document that names the file
@@ -85,7 +89,7 @@ def runs(files, least):
     for f in (f for f in files if f.path.name != 'Proof.antt'):
         kept = [(' '.join(text.split()), number) for number, text in f.code]
         lines[f.name] = kept = [(text, number) for text, number in kept
-                                if len(text) >= THIN and not re.match(r'(pub )?mod ', text)]
+                                if len(text) >= THIN and not re.match(r'(pub )?mod |\w+: [^=]*,$', text)]
         for i in range(len(kept) - least + 1):
             places[tuple(text for text, _ in kept[i:i + least])].append((f.name, i))
     seen = set()

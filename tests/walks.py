@@ -1,5 +1,5 @@
 #!/usr/bin/env python3
-"""walks.py >crates/test_walks/stdin: the walks that the program walks takes, as its lines (crates/test_walks/src/main.rt says what each
+"""walks.py >crates/test_walks/stdin: the walks that the program test_walks takes, as its lines (crates/test_walks/src/main.rt says what each
 number is). The entries that stay through all cases: a segment at 0x1008 with a page table at 0x2000, whose entries at 0x2008
 and 0x2010 are valid and not; a segment at 0x1010 that is not valid. Segment 3 (0x100C) and page 3 (0x200C) change."""
 
