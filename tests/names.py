@@ -1,8 +1,8 @@
 #!/usr/bin/env python3
 """Checks the names in docs/CLAIMS.md against the tree: what is cited exists, and every must-fail edit and every witness is
 cited; the paths and functions that the other documents name (OTHERS); and the tables of docs/ARCHITECTURE.md against
-crates.txt: every crate stands there, below those that it names. Prints what is missing and ends with status 1, else prints one
-line.
+crates.txt: every crate stands there, below those that it names; and, as docs/CLAIMS.md says, that no `pub fn` has a `requires`.
+Prints what is missing and ends with status 1, else prints one line.
 
 Of what stands in backquotes: a path exists, `crate/edit` is an edit, `crate::module::function` a function of that module,
 `Record.field` and any other name a definition, theorem, field, function or type; of an expression, the names in it that are
@@ -68,6 +68,14 @@ def layers():
     return wrong
 
 
+def required():
+    """Public functions that ask something of their callers."""
+    return ['%s: %s has a `requires`' % (path.relative_to(CRATES), name)
+            for path, text in read(CRATES.glob('*/src/**/*.rt')).items()
+            for name, contract in re.findall(r'^pub (?:extern "C" )?fn (\w+)(.*?)^\{', text, re.M | re.S)
+            if re.search(r'^ +requires ', contract, re.M)]
+
+
 def located(path):
     """The files that a path of the claims stands for: from the top, in crates/, or a file name of some specs/."""
     for base in (ROOT, CRATES):
@@ -130,7 +138,7 @@ def main():
     claims = (ROOT / 'docs' / 'CLAIMS.md').read_text(encoding='utf-8')
     cited = re.findall(r'`([^`]+)`', claims)
     wrong = ['%s: not in the tree' % part for name in cited for part in missing(name)]
-    wrong += layers() + [row for document in OTHERS for row in misplaced(document)]
+    wrong += layers() + required() + [row for document in OTHERS for row in misplaced(document)]
     # names directly before a path
     for names, path in re.findall(r'((?:`[^`]+`(?:,? and |, )?)+) \(`([^`]+\.antt|[^`]+/specs)`', claims):
         for name in re.findall(r"`([\w'-]+)`", names):

@@ -21,19 +21,6 @@ sourceField Fill8 p = p % 256
 abbrev pub destinationField : ℕ → ℕ
 destinationField p = p % 32
 
--- every field of a mode is below this: five, eight or ten bits
-abbrev pub fieldSize : FieldMode → ℕ
-fieldSize Absent = 32
-fieldSize Imm5 = 32
-fieldSize Uimm5 = 32
-fieldSize Wai5 = 32
-fieldSize Stk5 = 32
-fieldSize Istk5 = 32
-fieldSize Imm10 = 1024
-fieldSize Pcrel10 = 1024
-fieldSize Stk8 = 256
-fieldSize Fill8 = 256
-
 -- what a field stands for: immediates are sign extended, offsets are scaled, ENTER's is filled with ones
 abbrev pub fieldValue : FieldMode → ℕ → ℕ
 fieldValue Absent f = 0

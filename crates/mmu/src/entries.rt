@@ -7,8 +7,8 @@ use memory::exceptions::READ_FAULT;
 use memory::exceptions::WRITE_FAULT;
 use word::fields::bit;
 use word::fields::field;
-use word::fields::placed;
 ghost use mathlib.Core.Path.{_≡_};
+ghost use Prim.Native.Nat.{_-_, _*_, _+_, _^_, _<_};
 ghost use Rattle.mmu.specs.Walk.{faultOf, isWrite, segmentPlace, pagePlace, permits as permitsOf};
 
 // The exception of an access that is not permitted.
@@ -30,6 +30,15 @@ pub fn is_write(k: AccessKind) -> bool
         AccessKind::Read => false,
         AccessKind::Write => true,
     }
+}
+
+// A field with another of n bits below it. That they fit is required: `|` adds them only then, and every caller has just cut
+// them to their widths.
+pub(crate) fn placed(high: u32, n: u32, low: u32) -> u32
+    requires { ⌜ (n < 32) × (high < 2 ^ (32 - n)) × (low < 2 ^ n) ⌝ }
+    ensures { λ r. ⌜ r ≡ high * 2 ^ n + low ⌝ }
+{
+    (high << n) | low
 }
 
 // The address of a segment entry.

@@ -8,7 +8,7 @@ use Rattle.access_spec.specs.Program.{Program}
 use Rattle.machine.specs.Registers.{Bank, word, psw, traceDue, timer1Due, timer2Due, nmiTaken}
 use Rattle.machine.specs.Status.{Cpu, with}
 use Rattle.datapath.specs.Parts.{Out}
-use Rattle.exec_spec.specs.EventFrames.{interruptSequence, exceptionSequence}
+use Rattle.exec_spec.specs.EventFrames.{interruptSequence, exceptionSequence, exceptionVector}
 use Rattle.memory.specs.Exceptions.{traceException}
 use Rattle.machine.specs.Bits.{priorityLow, priorityBits}
 
@@ -64,7 +64,7 @@ abbrev pub vectorOf : Event → ℕ
 vectorOf (interrupt n) = 16 + 4 * n
 vectorOf timer1 = 44
 vectorOf timer2 = 48
-vectorOf trace = 4
+vectorOf trace = exceptionVector
 
 unfoldable pub take : Cpu → Event → Program (Out Cpu)
 take c (interrupt n) = interruptSequence (takenOf (interrupt n) c) (vectorOf (interrupt n))

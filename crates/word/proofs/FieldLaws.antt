@@ -2,11 +2,11 @@
 -- Assumes nothing.
 use mathlib.Core.Path.{_≡_, sym, ap, _∙_}
 use Prim.Native.Nat.{ℕ, max, _+_, _-_, _*_, _/_, _%_, _^_, _≤_, _<_}
-use native.Mathlib.Nat.{one-mul, add-zero, mod-lt, mod-eq-of-lt, mul-le-mul}
+use native.Mathlib.Nat.{one-mul, add-zero, mod-lt, mod-eq-of-lt}
 use native.Mathlib.Omega.{arith}
 use lib.Dec.{lit<}
 use lib.Pow.{pow-pos, shl-exact, split}
-use lib.Bits.{bitAnd, bitOr, and-mask, or-step, or-zero-r, or-block, or-shifted, or-shifted-r}
+use lib.Bits.{bitAnd, bitOr, and-mask, or-step, or-zero-r, or-block, or-shifted}
 use Rattle.word.specs.Fields.{fieldOf, setOf, joinedOf, clearedOf}
 
 -- 1 << n at 32 bits
@@ -43,13 +43,3 @@ cleared-shifted x n h = mod-eq-of-lt {n = x / 2 ^ n * 2 ^ n} {m = 2 ^ 32} (omega
 -- a field above one of n bits
 pub placed-masked : (high n low : ℕ) → n < 32 → high < 2 ^ (32 - n) → low < 2 ^ n → bitOr (high * 2 ^ n % 2 ^ 32) low ≡ high * 2 ^ n + low
 placed-masked high n low h g l = rw (shl-exact {a = high} (32 - n) n 32 g (omega arith)) (or-shifted high n low l)
-
--- a field of up to ten bits, scaled by a shift of up to four
-pub shifted-field : (f n : ℕ) → f < 1024 → n ≤ 16 → f * n % 2 ^ 32 ≡ f * n
-shifted-field f n h l =
-    let b : f * n ≤ 1024 * 16 = mul-le-mul {n₁ = f} {m₁ = n} {n₂ = 1024} {m₂ = 16} (omega arith) l in
-    mod-eq-of-lt {n = f * n} {m = 2 ^ 32} (omega arith)
-
--- the same of eight bits by four, with ones above
-pub filled-field : (f : ℕ) → f < 256 → bitOr (f * 16 % 2 ^ 32) 0xFFFF_F000 ≡ f * 16 + 0xFFFF_F000
-filled-field f h = rw (shifted-field f 16 (omega arith) (omega arith)) (or-shifted-r 0xF_FFFF 12 (f * 16) (omega arith) ∙ omega arith)

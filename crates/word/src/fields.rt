@@ -1,6 +1,6 @@
 // Fields and bits of words, by shifts and masks.
 ghost use mathlib.Core.Path.{_≡_};
-ghost use Prim.Native.Nat.{_-_, _*_, _+_, _/_, _%_, _^_, _<_};
+ghost use Prim.Native.Nat.{_/_, _%_};
 ghost use Rattle.word.specs.Fields.{fieldOf, bitOf, setOf, joinedOf, clearedOf};
 
 // count bits of x from bit low up; only the low five bits of low and count are used.
@@ -29,14 +29,6 @@ pub fn clear_low(x: u32, n: u32) -> u32
     ensures { λ r. ⌜ r ≡ clearedOf x (n % 32) ⌝ }
 {
     (x >> (n % 32)) << (n % 32)
-}
-
-// A field with another of n bits below it.
-pub fn placed(high: u32, n: u32, low: u32) -> u32
-    requires { ⌜ (n < 32) × (high < 2 ^ (32 - n)) × (low < 2 ^ n) ⌝ }
-    ensures { λ r. ⌜ r ≡ high * 2 ^ n + low ⌝ }
-{
-    (high << n) | low
 }
 
 // A word of two halves, the high one first.

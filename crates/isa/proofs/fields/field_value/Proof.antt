@@ -1,4 +1,4 @@
-use Rattle.isa.proofs.FieldLaws.{value-at, scaled-at, relative-at, filled-at}
+use Rattle.isa.proofs.FieldLaws.{value-at, plain-at, extended-at, scaled-at, relative-at, filled-at}
 use borrow.Author.Needs.{needs}
 use Rattle.isa.proofs.fields.field_value.Statement.{statement}
 use Rattle.isa.proofs.fields.field_value.Tie as tie
@@ -39,14 +39,17 @@ enum-told-9 c = search needs
 enum-told-10 : tie.Need-enum-told-10
 enum-told-10 c = search needs
 
+plus-requires : tie.Need-plus-requires
+plus-requires c κs = search needs
+
 returns : tie.Need-returns
-returns c = search needs
+returns c = search (needs, value-at)
 
 returns-2 : tie.Need-returns-2
-returns-2 c = search (needs, value-at)
+returns-2 c = search (needs, extended-at)
 
 returns-3 : tie.Need-returns-3
-returns-3 c = search needs
+returns-3 c = search (needs, plain-at)
 
 returns-4 : tie.Need-returns-4
 returns-4 c = search (needs, scaled-at)
@@ -85,6 +88,7 @@ field-value-spec =
     extend-requires-2
     enum-told-9
     enum-told-10
+    plus-requires
     returns
     returns-2
     returns-3

@@ -1,7 +1,7 @@
 use Rattle.word.proofs.FieldLaws.{placed-masked}
 use borrow.Author.Needs.{needs}
-use Rattle.word.proofs.fields.placed.Statement.{statement}
-use Rattle.word.proofs.fields.placed.Tie as tie
+use Rattle.mmu.proofs.entries.placed.Statement.{statement}
+use Rattle.mmu.proofs.entries.placed.Tie as tie
 
 shl-result : tie.Need-shl-result
 shl-result c = search needs
