@@ -20,7 +20,8 @@ use Rattle.machine.specs.Registers.{pc}
 use Rattle.machine.specs.Status.{Cpu, reg, regime}
 use Rattle.datapath.specs.declared.text.OperandParcels.{OperandParcels}
 use Rattle.datapath.specs.Parts.{Out, ok, stop, onward, _>>=_, done}
-use Rattle.datapath.specs.Text.{fetchParcels, following, fetchAfter, fetchPrefixed, fetchText}
+use Rattle.isa.specs.Lengths.{following}
+use Rattle.datapath.specs.Text.{fetchParcels, fetchAfter, fetchPrefixed, fetchText}
 use Rattle.datapath.specs.Code.{fetchTwo, joinedOut, listed, wordsFetched, fetchStopped, operandsOut, textOut}
 use Rattle.datapath.proofs.BindLaws.{bind, parcel-fetched}
 use Rattle.datapath.proofs.TextLaws.{halves, pairs}

@@ -3,9 +3,10 @@
 use Prim.Native.Nat.{ℕ, zero, suc}
 use mathlib.Core.Bool.{cond}
 use mathlib.Core.List.{List, [], _∷_}
-use lib.Dec.{eqb, ltb}
+use lib.Dec.{eqb}
 use Rattle.word.specs.Sums.{plusOf}
 use Rattle.isa.specs.declared.Text.{Text}
+use Rattle.isa.specs.Lengths.{following}
 use Rattle.isa.specs.Decode.{cpuPrefix, textOf}
 use Rattle.access_spec.specs.Access.{fetch}
 use Rattle.access_spec.specs.Program.{Program}
@@ -23,10 +24,6 @@ fetchParcels c a (suc n) = do
   p ← fetchParcel c a
   ps ← fetchParcels c (plusOf a 2) n
   done (p ∷ ps)
-
--- how many parcels follow one that begins an instruction: 0, 10 or 11 in its top bits
-abbrev pub following : ℕ → ℕ
-following p = cond (ltb p 0x8000) 0 (cond (ltb p 0xC000) 2 4)
 
 unfoldable pub fetchAfter : Cpu → ℕ → Program (Out Text)
 fetchAfter c p = do

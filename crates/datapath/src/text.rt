@@ -17,7 +17,8 @@ ghost use Prim.Native.Nat.{_%_};
 ghost use Rattle.memory.specs.Answers.{answerOf};
 ghost use Rattle.isa.specs.Decode.{textOf, cpuPrefix};
 ghost use mathlib.Core.List.{[], _∷_};
-ghost use Rattle.datapath.specs.Text.{following, fetchParcels, fetchAfter, fetchPrefixed, fetchText};
+ghost use Rattle.isa.specs.Lengths.{following};
+ghost use Rattle.datapath.specs.Text.{fetchParcels, fetchAfter, fetchPrefixed, fetchText};
 ghost use Rattle.datapath.specs.Code.{joinedOut, fetchTwo, listed, wordsFetched, fetchStopped, operandsOut, textOut};
 ghost use Rattle.datapath.specs.Contracts.{Fetches};
 

@@ -20,7 +20,8 @@ use Rattle.isa.specs.declared.DyadicEntry.{DyadicEntry}
 use Rattle.isa.specs.declared.DyadicEntry.the-variants as entry
 use Rattle.isa.specs.declared.Instruction.the-variants.{Dyadic}
 use Rattle.isa.specs.declared.Decoded.{Decoded}
-use Rattle.isa.specs.declared.Decoded.the-variants.{Is, Illegal, Unimplemented}
+use Rattle.isa.specs.declared.Decoded.the-variants.{Illegal, Unimplemented}
+use Rattle.isa.specs.Answers.{unimplementedVector, withLength}
 use Rattle.isa.specs.Tables.{dyadicOf}
 use Rattle.isa.specs.Legal.{legalOf}
 use Rattle.isa.specs.Decode.{extended, operandValue, operandFound, modeEntry, dyadicAnswer, bothFound, decodeDyadic}
@@ -68,14 +69,14 @@ operand-is w pre k x e r q h = rw (sym q) h
 
 -- an instruction by its row, its operands and whether they are legal
 module _ (w : Wide) (pre : Bool) (s d : Operand) (a : Bool) where
-  pub row-legal : (r : DyadicRow) (u : Rule) → a ≡ legalOf u s d → a ≡ true
-      → Is (Dyadic (record { row = r; wide = w; prefix = pre; source = s; destination = d })) ≡ dyadicAnswer (entry.Row r u) w pre s d
-  row-legal r u e t = rw (sym e, t) refl
+  pub row-legal : (r : DyadicRow) (u : Rule) (x : Decoded) → a ≡ legalOf u s d → a ≡ true
+      → x ≡ withLength (Dyadic (record { row = r; wide = w; prefix = pre; source = s; destination = d })) → x ≡ dyadicAnswer (entry.Row r u) w pre s d
+  row-legal r u x e t h = rw (sym e, t) h
 
   pub row-illegal : (r : DyadicRow) (u : Rule) → a ≡ legalOf u s d → a ≡ false → Illegal ≡ dyadicAnswer (entry.Row r u) w pre s d
   row-illegal r u e t = rw (sym e, t) refl
 
-  pub gap-legal : a ≡ legalOf OneRegister s d → a ≡ true → Unimplemented ≡ dyadicAnswer entry.Unimplemented w pre s d
+  pub gap-legal : a ≡ legalOf OneRegister s d → a ≡ true → Unimplemented unimplementedVector ≡ dyadicAnswer entry.Unimplemented w pre s d
   gap-legal e t = rw (sym e, t) refl
 
   pub gap-illegal : a ≡ legalOf OneRegister s d → a ≡ false → Illegal ≡ dyadicAnswer entry.Unimplemented w pre s d

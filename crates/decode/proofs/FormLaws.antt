@@ -9,8 +9,7 @@ use Rattle.word.proofs.CaseLaws.{by-test}
 use Rattle.isa.specs.declared.Wide.{Wide}
 use Rattle.isa.specs.declared.Wide.the-variants.{Three}
 use Rattle.isa.specs.declared.Decoded.{Decoded}
-use Rattle.isa.specs.declared.Decoded.the-variants.{Refused}
-use Rattle.isa.specs.Refusals.{truncatedText}
+use Rattle.isa.specs.declared.Decoded.the-variants.{Truncated}
 use Rattle.isa.specs.Decode.{joined, decodeDyadic, decodeMonadic, decodeThree, decodeWide}
 use Rattle.decode.specs.Forms.{formOf, afterOf, monadicForm, firstOf, secondOf}
 
@@ -27,14 +26,14 @@ second-of w v b c d r e h = rw e h
 -- three and five parcels
 module _ (pre : Bool) (n p a b c d : ℕ) where
   by-form : decodeWide pre n p a b c d
-      ≡ cond (ltb n (afterOf (formOf p))) (Refused truncatedText)
+      ≡ cond (ltb n (afterOf (formOf p))) Truncated
       (cond (monadicForm (formOf p) p) (decodeMonadic pre p (joined a b))
       (decodeDyadic (formOf p) pre p (firstOf (formOf p) a b) (secondOf (formOf p) b c d)))
   unfolding decodeWide decodeThree
   by-form = by-test (ltb p 0xC000) (λ e. simp e) (λ e. simp e)
 
   module _ (w : Wide) (k : ℕ) (ew : w ≡ formOf p) (ek : k ≡ afterOf w) where
-    pub form-cut : n < k → Refused truncatedText ≡ decodeWide pre n p a b c d
+    pub form-cut : n < k → Truncated ≡ decodeWide pre n p a b c d
     form-cut h = rw (by-form, sym ew, sym ek, lt-ltb _ _ h) refl
 
     pub form-monadic : (m : Bool) (v : ℕ) (r : Decoded) → k ≤ n → m ≡ monadicForm w p → m ≡ true → v ≡ joined a b → r ≡ decodeMonadic pre p v

@@ -13,15 +13,16 @@ use Rattle.isa.specs.declared.MonadicEntry.{MonadicEntry}
 use Rattle.isa.specs.declared.MonadicEntry.the-variants as entry
 use Rattle.isa.specs.declared.Instruction.the-variants.{Monadic}
 use Rattle.isa.specs.declared.Decoded.{Decoded}
-use Rattle.isa.specs.declared.Decoded.the-variants.{Is, Illegal, Unimplemented}
+use Rattle.isa.specs.declared.Decoded.the-variants.{Illegal, Unimplemented}
+use Rattle.isa.specs.Answers.{unimplementedVector, withLength}
 use Rattle.isa.specs.Tables.{monadicOf, monadicModeOf}
 use Rattle.isa.specs.Legal.{monadicLegalOf}
 use Rattle.isa.specs.Decode.{monadicFound, monadicAnswer, decodeMonadic}
 
 module _ (r : MonadicRow) (u : MonadicRule) (pre : Bool) (v : ℕ) where
-  pub mode-legal : (m : MonadicMode) (a : Bool) → a ≡ monadicLegalOf u m v → a ≡ true
-      → Is (Monadic (record { row = r; prefix = pre; mode = m; value = v })) ≡ monadicFound r u pre (place.Is m) v
-  mode-legal m a e t = rw (sym e, t) refl
+  pub mode-legal : (m : MonadicMode) (a : Bool) (x : Decoded) → a ≡ monadicLegalOf u m v → a ≡ true
+      → x ≡ withLength (Monadic (record { row = r; prefix = pre; mode = m; value = v })) → x ≡ monadicFound r u pre (place.Is m) v
+  mode-legal m a x e t h = rw (sym e, t) h
 
   pub mode-illegal : (m : MonadicMode) (a : Bool) → a ≡ monadicLegalOf u m v → a ≡ false → Illegal ≡ monadicFound r u pre (place.Is m) v
   mode-illegal m a e t = rw (sym e, t) refl
@@ -35,7 +36,7 @@ module _ (e : MonadicEntry) (pre : Bool) (k v : ℕ) (a : Decoded) where
       → a ≡ monadicFound r u pre m v → a ≡ monadicAnswer e pre k v
   row-is r u m q g h = h ∙ rw (q, g) refl
 
-  pub gap-is : e ≡ entry.Unimplemented → a ≡ cond (ltb k 0xC) Illegal Unimplemented → a ≡ monadicAnswer e pre k v
+  pub gap-is : e ≡ entry.Unimplemented → a ≡ cond (ltb k 0xC) Illegal (Unimplemented unimplementedVector) → a ≡ monadicAnswer e pre k v
   gap-is q h = rw q h
 
 pub monadic-is : (pre : Bool) (p v k m : ℕ) (e : MonadicEntry) (a : Decoded) → k ≡ p % 16 → e ≡ monadicOf k → m ≡ p / 16 % 16

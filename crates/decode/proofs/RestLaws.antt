@@ -1,7 +1,7 @@
 -- A text with or without its prefix: the code's order of tests agrees with isa's definitions; the ways out of the functions.
 -- Assumes nothing.
 use Prim.Native.Nat.{ℕ, _-_, _/_, _<_, _≤_}
-use mathlib.Core.Path.{_≡_, refl, sym, _∙_}
+use mathlib.Core.Path.{_≡_, refl, sym, ap, _∙_}
 use mathlib.Core.Bool.{Bool, true, false}
 use mathlib.Core.List.{List}
 use native.Mathlib.Omega.{arith}
@@ -11,8 +11,8 @@ use borrow.Author.Tests.{lt-ltb, le-ltb, ltb-true, ltb-false}
 use Rattle.word.proofs.CaseLaws.{by-test}
 use Rattle.isa.specs.declared.Text.{Text}
 use Rattle.isa.specs.declared.Decoded.{Decoded}
-use Rattle.isa.specs.declared.Decoded.the-variants.{Refused}
-use Rattle.isa.specs.Refusals.{truncatedText}
+use Rattle.isa.specs.declared.Decoded.the-variants.{Truncated}
+use Rattle.isa.specs.Answers.{decodedNumbers}
 use Rattle.isa.specs.Decode.{cpuPrefix, decodeShort, decodeWide, decodePrefixed, decodeBare, decodeOf, textOf}
 use Rattle.decode.specs.Forms.{restOf, shortRest, decodeRest}
 
@@ -24,7 +24,7 @@ pub parcel-bare : (q : Bool) (p : ℕ) (r : Decoded) → q ≡ false → r ≡ d
 parcel-bare q p r e h = rw e h
 
 module _ (q : Bool) (t : Text) where
-  pub rest-none : t .count < 1 → Refused truncatedText ≡ decodeRest q t
+  pub rest-none : t .count < 1 → Truncated ≡ decodeRest q t
   unfolding decodeRest
   rest-none h = simp (lt-ltb _ _ h)
 
@@ -62,11 +62,12 @@ module _ (t : Text) where
       (λ e. simp (le-ltb _ _ h, e) (sym (rest-bare h)))
 
   pub text-rest : (u : Text) (r : Decoded) → 1 ≤ t .count → u ≡ restOf (eqb (t .p0) cpuPrefix) t → r ≡ decodeRest (eqb (t .p0) cpuPrefix) u
-      → r ≡ decodeOf t
-  text-rest u r h e f = rw (by-rest h, sym e) f
+      → decodedNumbers r ≡ decodedNumbers (decodeOf t)
+  text-rest u r h e f = let g : r ≡ decodeOf t = rw (by-rest h, sym e) f in ap decodedNumbers g
 
 -- parcels gathered one by one
 pub gathered : (ps : List ℕ) (a b c d e f : ℕ) (r : Decoded) → a ≡ getD ps 0 0 → b ≡ getD ps 1 0 → c ≡ getD ps 2 0 → d ≡ getD ps 3 0
     → e ≡ getD ps 4 0 → f ≡ getD ps 5 0
-    → r ≡ decodeOf (record { count = length ps; p0 = a; p1 = b; p2 = c; p3 = d; p4 = e; p5 = f }) → r ≡ decodeOf (textOf ps)
+    → decodedNumbers r ≡ decodedNumbers (decodeOf (record { count = length ps; p0 = a; p1 = b; p2 = c; p3 = d; p4 = e; p5 = f }))
+    → decodedNumbers r ≡ decodedNumbers (decodeOf (textOf ps))
 gathered ps a b c d e f r ha hb hc hd he hf h = h ∙ rw (ha, hb, hc, hd, he, hf) refl

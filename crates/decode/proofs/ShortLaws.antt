@@ -6,11 +6,12 @@ use native.Mathlib.Nat.{div-one}
 use Rattle.isa.specs.declared.ShortRow.{ShortRow}
 use Rattle.isa.specs.declared.FieldMode.{FieldMode}
 use Rattle.isa.specs.declared.ShortEntry.{ShortEntry}
-use Rattle.isa.specs.declared.ShortEntry.the-variants.{Row, Stack, Niladic}
+use Rattle.isa.specs.declared.ShortEntry.the-variants.{Row, Stack, Niladic, Unimplemented, Trap}
 use Rattle.isa.specs.declared.ShortInstruction.{ShortInstruction}
 use Rattle.isa.specs.declared.Instruction.the-variants.{Short}
 use Rattle.isa.specs.declared.Decoded.{Decoded}
-use Rattle.isa.specs.declared.Decoded.the-variants.{Is}
+use Rattle.isa.specs.declared.Decoded.the-variants as answer
+use Rattle.isa.specs.Answers.{unimplementedVector, niladicTrapVector, withLength}
 use Rattle.isa.specs.Tables.{shortOf, stackOf, niladicOf}
 use Rattle.isa.specs.Fields.{sourceField, destinationField, fieldValue}
 use Rattle.isa.specs.Decode.{shortEntry, shortInstruction, shortAnswer, decodeShort}
@@ -37,9 +38,16 @@ pub instruction-is : (w : ShortRow) (s d : FieldMode) (p x y : ℕ) → x ≡ fi
     → _≡_ {A = ShortInstruction} (record { row = w; source = x; destination = y }) (shortInstruction w s d p)
 instruction-is w s d p x y e f = cc
 
-pub row-is : (e : ShortEntry) (w : ShortRow) (s d : FieldMode) (p : ℕ) (i : ShortInstruction) → e ≡ Row w s d → i ≡ shortInstruction w s d p
-    → Is (Short i) ≡ shortAnswer e p
-row-is e w s d p i q h = rw (q, h) refl
+pub row-is : (e : ShortEntry) (w : ShortRow) (s d : FieldMode) (p : ℕ) (i : ShortInstruction) (r : Decoded) → e ≡ Row w s d → i ≡ shortInstruction w s d p
+    → r ≡ withLength (Short i) → r ≡ shortAnswer e p
+row-is e w s d p i r q h g = g ∙ rw (q, h) refl
+
+-- the vectors of 1.11.4
+pub gap-is : (e : ShortEntry) (p : ℕ) → e ≡ Unimplemented → answer.Unimplemented unimplementedVector ≡ shortAnswer e p
+gap-is e p q = rw q refl
+
+pub trap-is : (e : ShortEntry) (p : ℕ) → e ≡ Trap → answer.Unimplemented niladicTrapVector ≡ shortAnswer e p
+trap-is e p q = rw q refl
 
 pub short-is : (p k : ℕ) (e f : ShortEntry) (r : Decoded) → k ≡ p / 1024 % 32 → e ≡ shortOf k → f ≡ shortEntry e p → r ≡ shortAnswer f p
     → r ≡ decodeShort p

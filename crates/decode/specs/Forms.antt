@@ -10,8 +10,8 @@ use Rattle.isa.specs.declared.Wide.{Wide}
 use Rattle.isa.specs.declared.Wide.the-variants.{Three, Five}
 use Rattle.isa.specs.declared.Text.{Text}
 use Rattle.isa.specs.declared.Decoded.{Decoded}
-use Rattle.isa.specs.declared.Decoded.the-variants.{Illegal, Refused}
-use Rattle.isa.specs.Refusals.{truncatedText}
+use Rattle.isa.specs.declared.Decoded.the-variants.{Illegal, Truncated}
+use Rattle.isa.specs.Lengths.{wideLength}
 use Rattle.isa.specs.Decode.{joined, decodeShort, decodeWide}
 
 -- modes whose 16 bits are not extended
@@ -38,8 +38,7 @@ abbrev pub formOf : ℕ → Wide
 formOf p = cond (ltb p 0xC000) Three Five
 
 abbrev pub afterOf : Wide → ℕ
-afterOf Three = 2
-afterOf Five = 4
+afterOf w = wideLength w - 1
 
 -- only in three parcels is opcode 0 the monadics'
 abbrev pub monadicForm : Wide → ℕ → Bool
@@ -67,6 +66,6 @@ shortRest false p = decodeShort p
 
 unfoldable pub decodeRest : Bool → Text → Decoded
 decodeRest pre t =
-    cond (ltb (t .count) 1) (Refused truncatedText)
+    cond (ltb (t .count) 1) Truncated
     (cond (ltb (t .p0) 0x8000) (shortRest pre (t .p0))
     (decodeWide pre (t .count - 1) (t .p0) (t .p1) (t .p2) (t .p3) (t .p4)))

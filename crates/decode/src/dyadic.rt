@@ -14,7 +14,9 @@ use isa::ModeEntry;
 use isa::Operand;
 use isa::OperandFound;
 use isa::Rule;
+use isa::UNIMPLEMENTED_VECTOR;
 use isa::Wide;
+use isa::lengths::with_length;
 use word::fields::field;
 use word::widths::extend;
 ghost use mathlib.Core.Path.{_≡_};
@@ -93,7 +95,7 @@ fn of_row(r: DyadicRow, rule: Rule, wide: Wide, prefix: bool, s: Operand, d: Ope
     ensures { λ a. ⌜ a ≡ dyadicAnswer (entry.Row r rule) wide prefix s d ⌝ }
 {
     if legal(rule, s, d) {
-        Decoded::Is(Instruction::Dyadic(DyadicInstruction {
+        with_length(Instruction::Dyadic(DyadicInstruction {
             row: r,
             wide,
             prefix,
@@ -110,7 +112,7 @@ fn of_gap(wide: Wide, prefix: bool, s: Operand, d: Operand) -> Decoded
     ensures { λ r. ⌜ r ≡ dyadicAnswer entry.Unimplemented wide prefix s d ⌝ }
 {
     if legal(Rule::OneRegister, s, d) {
-        Decoded::Unimplemented
+        Decoded::Unimplemented(UNIMPLEMENTED_VECTOR)
     } else {
         Decoded::Illegal
     }
@@ -145,7 +147,7 @@ fn of_operands(
 }
 
 // The opcode is in bits 13:8, the source's mode in 7:4, the destination's in 3:0; x and y are the operand fields.
-pub fn decode_dyadic(wide: Wide, prefix: bool, p: u16, x: u32, y: u32) -> Decoded
+pub(crate) fn decode_dyadic(wide: Wide, prefix: bool, p: u16, x: u32, y: u32) -> Decoded
     ensures { λ r. ⌜ r ≡ decodeDyadic wide prefix p x y ⌝ }
 {
     let e = find_dyadic(field(p as u32, 8, 6));

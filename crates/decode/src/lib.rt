@@ -1,8 +1,8 @@
-// The decoder: what one to six parcels say (sections 1.6 and 1.11.4). Here: the length of an instruction, by its first
-// parcel or the one after a prefix; parcels by value, or lent.
+// The decoder: what one to six parcels say (sections 1.6 and 1.11.4), an instruction with its length. Here: a prefix and the form,
+// by the first parcel or the one after a prefix; parcels by value, or lent.
 pub mod dyadic;
 pub mod fields;
-pub mod monadic;
+mod monadic;
 pub mod short;
 pub mod wide;
 
@@ -15,13 +15,9 @@ use word::fields::form_bits;
 ghost use mathlib.Core.Path.{_≡_};
 ghost use Prim.Native.Nat.{_-_};
 ghost use lib.ListN.{getD};
+ghost use Rattle.isa.specs.Answers.{decodedNumbers};
 ghost use Rattle.isa.specs.Decode.{decodeOf, textOf};
 ghost use Rattle.decode.specs.Forms.{restOf, shortRest, decodeRest};
-
-// The refusal of fewer parcels than the first one, or the one after a prefix, calls for.
-const CUT_TEXT: u32 = 6;
-
-// The CPU prefix: opcode 0xB, subcode 0.
 
 // How many parcels stand after the first.
 fn after_first(count: usize) -> usize
@@ -63,7 +59,7 @@ fn decode_rest(prefix: bool, t: Text) -> Decoded
     ensures { λ r. ⌜ r ≡ decodeRest prefix t ⌝ }
 {
     if t.count < 1 {
-        Decoded::Refused(CUT_TEXT)
+        Decoded::Truncated
     } else {
         if form_bits(t.p0) < 2 {
             decode_parcel(prefix, t.p0)
@@ -75,10 +71,10 @@ fn decode_rest(prefix: bool, t: Text) -> Decoded
 
 // Parcels by value, as a step has fetched them.
 pub fn decode_text(t: Text) -> Decoded
-    ensures { λ r. ⌜ r ≡ decodeOf t ⌝ }
+    ensures { λ r. ⌜ decodedNumbers r ≡ decodedNumbers (decodeOf t) ⌝ }
 {
     if t.count < 1 {
-        Decoded::Refused(CUT_TEXT)
+        Decoded::Truncated
     } else {
         let prefix = t.p0 == CPU_PREFIX;
         decode_rest(prefix, without_prefix(prefix, t))
@@ -93,7 +89,7 @@ fn parcel(s: &[u16], i: usize) -> u16
 
 // A lent text of any length: its first six parcels, as far as they go.
 pub fn decode(s: &[u16]) -> Decoded
-    ensures { λ r. ⌜ r ≡ decodeOf (textOf (now (s .entry))) ⌝ }
+    ensures { λ r. ⌜ decodedNumbers r ≡ decodedNumbers (decodeOf (textOf (now (s .entry)))) ⌝ }
 {
     decode_text(Text {
         count: s.len(),

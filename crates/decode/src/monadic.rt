@@ -11,19 +11,22 @@ use isa::MonadicMode;
 use isa::MonadicModeEntry;
 use isa::MonadicRow;
 use isa::MonadicRule;
+use isa::UNIMPLEMENTED_VECTOR;
+use isa::lengths::with_length;
 use word::fields::field;
 ghost use mathlib.Core.Path.{_≡_};
 ghost use mathlib.Core.Bool.{cond};
 ghost use lib.Dec.{ltb};
 ghost use Rattle.isa.specs.declared.Decoded.{Decoded};
 ghost use Rattle.isa.specs.declared.MonadicModeEntry.the-variants as place;
+ghost use Rattle.isa.specs.Answers.{unimplementedVector};
 ghost use Rattle.isa.specs.Decode.{monadicFound, monadicAnswer, decodeMonadic};
 
 fn of_mode(r: MonadicRow, rule: MonadicRule, prefix: bool, mode: MonadicMode, value: u32) -> Decoded
     ensures { λ a. ⌜ a ≡ monadicFound r rule prefix (place.Is mode) value ⌝ }
 {
     if monadic_legal(rule, mode, value) {
-        Decoded::Is(Instruction::Monadic(MonadicInstruction {
+        with_length(Instruction::Monadic(MonadicInstruction {
             row: r,
             prefix,
             mode,
@@ -51,12 +54,12 @@ fn of_row(
 
 // 1.11.4: an unimplemented subcode is illegal with a mode that is no word's.
 fn of_gap(code: u32) -> Decoded
-    ensures { λ r. ⌜ r ≡ cond (ltb code 0xC) Decoded.Illegal Decoded.Unimplemented ⌝ }
+    ensures { λ r. ⌜ r ≡ cond (ltb code 0xC) Decoded.Illegal (Decoded.Unimplemented unimplementedVector) ⌝ }
 {
     if code < 0xC {
         Decoded::Illegal
     } else {
-        Decoded::Unimplemented
+        Decoded::Unimplemented(UNIMPLEMENTED_VECTOR)
     }
 }
 
@@ -70,7 +73,7 @@ fn of_entry(e: MonadicEntry, prefix: bool, code: u32, value: u32) -> Decoded
     }
 }
 
-pub fn decode_monadic(prefix: bool, p: u16, value: u32) -> Decoded
+pub(crate) fn decode_monadic(prefix: bool, p: u16, value: u32) -> Decoded
     ensures { λ r. ⌜ r ≡ decodeMonadic prefix p value ⌝ }
 {
     of_entry(

@@ -8,9 +8,12 @@ use decode_tables::parcel::find_stack;
 use isa::Decoded;
 use isa::FieldMode;
 use isa::Instruction;
+use isa::NILADIC_TRAP_VECTOR;
 use isa::ShortEntry;
 use isa::ShortInstruction;
 use isa::ShortRow;
+use isa::UNIMPLEMENTED_VECTOR;
+use isa::lengths::with_length;
 use word::fields::field;
 ghost use mathlib.Core.Path.{_≡_};
 ghost use Rattle.isa.specs.Decode.{shortEntry, shortInstruction, shortAnswer, decodeShort};
@@ -45,17 +48,17 @@ fn answer(e: ShortEntry, p: u16) -> Decoded
     ensures { λ r. ⌜ r ≡ shortAnswer e p ⌝ }
 {
     match e {
-        ShortEntry::Row(r, s, d) => Decoded::Is(Instruction::Short(instruction(r, s, d, p))),
+        ShortEntry::Row(r, s, d) => with_length(Instruction::Short(instruction(r, s, d, p))),
         ShortEntry::Stack => Decoded::Illegal,
         ShortEntry::Niladic => Decoded::Illegal,
         ShortEntry::Prefix => Decoded::Illegal,
-        ShortEntry::Unimplemented => Decoded::Unimplemented,
-        ShortEntry::Trap => Decoded::Trap,
+        ShortEntry::Unimplemented => Decoded::Unimplemented(UNIMPLEMENTED_VECTOR),
+        ShortEntry::Trap => Decoded::Unimplemented(NILADIC_TRAP_VECTOR),
         ShortEntry::Unlisted => Decoded::Illegal,
     }
 }
 
-pub fn decode_short(p: u16) -> Decoded
+pub(crate) fn decode_short(p: u16) -> Decoded
     ensures { λ r. ⌜ r ≡ decodeShort p ⌝ }
 {
     answer(find_entry(find_short(field(p as u32, 10, 5)), p), p)

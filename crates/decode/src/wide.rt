@@ -1,9 +1,9 @@
 // Three and five parcels: which of the two the top bits of the first say.
-use crate::CUT_TEXT;
 use crate::dyadic::decode_dyadic;
 use crate::monadic::decode_monadic;
 use isa::Decoded;
 use isa::Wide;
+use isa::lengths::wide_length;
 use word::fields::field;
 use word::fields::form_bits;
 use word::fields::joined;
@@ -26,10 +26,7 @@ pub fn find_form(p: u16) -> Wide
 fn after(wide: Wide) -> usize
     ensures { λ r. ⌜ r ≡ afterOf wide ⌝ }
 {
-    match wide {
-        Wide::Three => 2,
-        Wide::Five => 4,
-    }
+    wide_length(wide) as usize - 1
 }
 
 // Opcode 0 of three parcels is the monadics'.
@@ -64,12 +61,12 @@ pub fn second(wide: Wide, b: u16, c: u16, d: u16) -> u32
 
 // A parcel p whose top bit is 1 and the parcels after it, of which there are n. The dyadic is decoded at one place for
 // both forms, so that the compiler keeps the answer in registers.
-pub fn decode_wide(prefix: bool, n: usize, p: u16, a: u16, b: u16, c: u16, d: u16) -> Decoded
+pub(crate) fn decode_wide(prefix: bool, n: usize, p: u16, a: u16, b: u16, c: u16, d: u16) -> Decoded
     ensures { λ r. ⌜ r ≡ decodeWide prefix n p a b c d ⌝ }
 {
     let wide = find_form(p);
     if n < after(wide) {
-        Decoded::Refused(CUT_TEXT)
+        Decoded::Truncated
     } else {
         if is_monadic(wide, p) {
             decode_monadic(prefix, p, joined(a, b))

@@ -86,7 +86,7 @@ fn dyadic_parcels(i: DyadicInstruction) -> Text
     )
 }
 
-pub fn encode_dyadic(i: DyadicInstruction) -> Encoded
+pub(crate) fn encode_dyadic(i: DyadicInstruction) -> Encoded
     ensures { λ r. ⌜ r ≡ encodeDyadic i ⌝ }
 {
     answer(dyadic_has_code(i), dyadic_parcels(i))

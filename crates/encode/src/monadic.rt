@@ -32,7 +32,7 @@ fn is_flow(m: MonadicMode) -> bool
 }
 
 // Whether a row's class takes the operand.
-pub fn takes_operand(o: Single, m: MonadicMode, v: u32) -> bool
+fn takes_operand(o: Single, m: MonadicMode, v: u32) -> bool
     ensures { λ r. ⌜ r ≡ takes o m v ⌝ }
 {
     match o {
@@ -77,7 +77,7 @@ fn monadic_has_code(i: MonadicInstruction) -> bool
     takes_operand(o, m, i.value)
 }
 
-pub fn encode_monadic(i: MonadicInstruction) -> Encoded
+pub(crate) fn encode_monadic(i: MonadicInstruction) -> Encoded
     ensures { λ r. ⌜ r ≡ encodeMonadic i ⌝ }
 {
     answer(monadic_has_code(i), monadic_parcels(i))

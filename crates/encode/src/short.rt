@@ -60,7 +60,7 @@ fn short_coded(l: ShortListed, u: u32, v: u32) -> Encoded
     )
 }
 
-pub fn encode_short(i: ShortInstruction) -> Encoded
+pub(crate) fn encode_short(i: ShortInstruction) -> Encoded
     ensures { λ r. ⌜ r ≡ encodeShort i ⌝ }
 {
     let row = i.row;

@@ -5,14 +5,14 @@ use isa::Text;
 ghost use mathlib.Core.Path.{_≡_};
 ghost use Rattle.isa.specs.Encode.{coded, text1, text3, text5, withPrefix};
 
-// A text where there is a code, else refusal 5.
+// A text where there is a code.
 pub fn answer(found: bool, t: Text) -> Encoded
     ensures { λ r. ⌜ r ≡ coded found t ⌝ }
 {
     if found {
         Encoded::Parcels(t)
     } else {
-        Encoded::Refused(5)
+        Encoded::NoCode
     }
 }
 

@@ -77,11 +77,11 @@ answers-class v c b q e h =
     let k : v < 4 = omega arith in
     simp (answer-got v l, lt-ltb v 4 k, lt-ltb v 3 h, e)
 
-module _ (confined : Bool) (c : Cpu) (i : Instruction) (k z : Bool) (ek : k ≡ isKcall (normal i)) (ez : z ≡ (confined && k)) (t : Journaled) where
+module _ (confined : Bool) (c : Cpu) (i : Instruction) (n : ℕ) (k z : Bool) (ek : k ≡ isKcall (normal i)) (ez : z ≡ (confined && k)) (t : Journaled) where
   abbrev done-as : Cpu → Attempted
   done-as d = acted (finished (traced (normal i)) d)
 
-  pub kcall-stops : (b : Bank) (q : Cache) → z ≡ true → response (attemptedOut (answerOf 0x20) b q) t ≡ interpret logging (actOf confined c (toInstruction i)) t
+  pub kcall-stops : (b : Bank) (q : Cache) → z ≡ true → response (attemptedOut (answerOf 0x20) b q) t ≡ interpret logging (actOf confined c (toInstruction i n)) t
   unfolding actOf actConfined _>>=_ onward after interpret
   kcall-stops b q h =
       let l : confined ≡ true = and-left confined k (sym ez ∙ h) in
@@ -89,26 +89,26 @@ module _ (confined : Bool) (c : Cpu) (i : Instruction) (k z : Bool) (ek : k ≡ 
       rw (answer-got 0x20 (omega arith), l, o) refl
 
   -- else it is executed
-  meets-acted : z ≡ false → interpret logging (actOf confined c (toInstruction i)) t ≡ response (mapped done-as (interpret logging (execute c i) t .out)) (interpret logging (execute c i) t .world)
+  meets-acted : z ≡ false → interpret logging (actOf confined c (toInstruction i n)) t ≡ response (mapped done-as (interpret logging (execute c i n) t .out)) (interpret logging (execute c i n) t .world)
   unfolding actOf actConfined act
   meets-acted h = go confined k ek (sym ez ∙ h)
     where
       go : (f l : Bool) → l ≡ isKcall (normal i) → (f && l) ≡ false
-          → interpret logging (actOf f c (toInstruction i)) t ≡ response (mapped done-as (interpret logging (execute c i) t .out)) (interpret logging (execute c i) t .world)
-      go true l el e = rw (sym el ∙ e) (renamed-twice (execute c i) (λ d. carriedOut (traced (normal i)) d) ofConfined t)
-      go false l el e = renamed-twice (execute c i) (λ d. finished (traced (normal i)) d) (λ a. acted a) t
+          → interpret logging (actOf f c (toInstruction i n)) t ≡ response (mapped done-as (interpret logging (execute c i n) t .out)) (interpret logging (execute c i n) t .world)
+      go true l el e = rw (sym el ∙ e) (renamed-twice (execute c i n) (λ d. carriedOut (traced (normal i)) d) ofConfined t)
+      go false l el e = renamed-twice (execute c i n) (λ d. finished (traced (normal i)) d) (λ a. acted a) t
 
-  module _ (x : ℕ) (b : Bank) (q : Cache) (u : Journaled) (e : response (cpuOut (answerOf x) b q) u ≡ interpret logging (execute c i) t) (h : z ≡ false) where
-    mapped-out : response (mapped done-as (cpuOut (answerOf x) b q)) u ≡ interpret logging (actOf confined c (toInstruction i)) t
+  module _ (x : ℕ) (b : Bank) (q : Cache) (u : Journaled) (e : response (cpuOut (answerOf x) b q) u ≡ interpret logging (execute c i n) t) (h : z ≡ false) where
+    mapped-out : response (mapped done-as (cpuOut (answerOf x) b q)) u ≡ interpret logging (actOf confined c (toInstruction i n)) t
     mapped-out = ap (λ (g : Response Journaled (Out Cpu)). response (mapped done-as (g .out)) (g .world)) e ∙ sym (meets-acted h)
 
-    pub instruction-stops : 2 ^ 32 ≤ x → response (attemptedOut (answerOf x) b q) u ≡ interpret logging (actOf confined c (toInstruction i)) t
+    pub instruction-stops : 2 ^ 32 ≤ x → response (attemptedOut (answerOf x) b q) u ≡ interpret logging (actOf confined c (toInstruction i n)) t
     instruction-stops l = same ∙ mapped-out
       where
         same : response (attemptedOut (answerOf x) b q) u ≡ response (mapped done-as (cpuOut (answerOf x) b q)) u
         same = rw (answer-high x l) refl
 
-    pub instruction-ends : x < 2 ^ 32 → (v : ℕ) → tracedFrom v ≡ traced (normal i) → v < 3 → response (attemptedOut (answerOf v) b q) u ≡ interpret logging (actOf confined c (toInstruction i)) t
+    pub instruction-ends : x < 2 ^ 32 → (v : ℕ) → tracedFrom v ≡ traced (normal i) → v < 3 → response (attemptedOut (answerOf v) b q) u ≡ interpret logging (actOf confined c (toInstruction i n)) t
     unfolding answerOf
     instruction-ends l v ev lv = ap (λ (o : Out Attempted). response o u) (answers-class v (traced (normal i)) b q ev lv) ∙ same ∙ mapped-out
       where

@@ -9,7 +9,9 @@ use borrow.Author.Tests.{ne-eqb, eq-eqb, lt-ltb, le-ltb, ltb-true, ltb-false}
 use Rattle.word.proofs.CaseLaws.{by-test}
 use Rattle.isa.specs.declared.Text.{Text}
 use Rattle.isa.specs.declared.Decoded.{Decoded}
+use Rattle.isa.specs.Answers.{decodedNumbers}
 use Rattle.isa.specs.Decode.{decodeOf}
+use Rattle.isa.proofs.AnswerLaws.{same-decoded}
 use Rattle.memory.specs.Answers.{Answer as Answered, good, raised, answerOf}
 use Rattle.access_spec.specs.Access.{Response, response}
 use Rattle.access_spec.specs.Program.{Program, ret, interpret}
@@ -66,11 +68,11 @@ module _ (confined : Bool) (b : Bank) (q : Cache) (f : Fetched) (t u : Journaled
   fetch-stops h x n en ex =
       rw (ex, en) (sym (attempted-as (stop (f .fault % 2 ^ 32) (cpu b q)) (stop (f .fault % 2 ^ 32) (cpu b q)) (simp (ne-eqb (f .fault) 0 h)) refl))
 
-  pub fetch-goes : f .fault ≡ 0 → (a : Decoded) → a ≡ decodeOf (f .text) → (g : Response Journaled (Out Attempted))
+  pub fetch-goes : f .fault ≡ 0 → (a : Decoded) → decodedNumbers a ≡ decodedNumbers (decodeOf (f .text)) → (g : Response Journaled (Out Attempted))
       → g ≡ interpret logging (onward (actOf confined (cpu b q)) (dispatch (cpu b q) a)) u → g ≡ interpret logging (attemptOf confined (cpu b q)) t
   unfolding onward interpret
   fetch-goes h a ea g k =
-      k ∙ sym (attempted-as (ok (f .text)) (dispatch (cpu b q) a) (simp (eq-eqb (f .fault) 0 h)) (ap (λ (x : Decoded). response (dispatch (cpu b q) x) u) (sym ea)))
+      k ∙ sym (attempted-as (ok (f .text)) (dispatch (cpu b q) a) (simp (eq-eqb (f .fault) 0 h)) (ap (λ (x : Decoded). response (dispatch (cpu b q) x) u) (sym (same-decoded a (decodeOf (f .text)) ea))))
 
 -- ---- the attempt of a run that takes events, and the confined one
 

@@ -6,7 +6,6 @@ use Rattle.isa.specs.declared.Operand.{Operand}
 use Rattle.isa.specs.declared.Wide.{Wide}
 use Rattle.isa.specs.declared.MonadicMode.{MonadicMode}
 use Rattle.isa.specs.declared.Instruction.{Instruction}
-use Rattle.isa.specs.Encode.{lengthOf}
 use Rattle.memory.specs.Answers.{answerOf}
 use Rattle.access_spec.specs.Access.{Response, response}
 use Rattle.access_spec.specs.Program.{interpret}
@@ -52,12 +51,12 @@ module _ (c : Cpu) (n : ℕ) (a : Action) (t : Journaled) (g : Response Journale
   unfolding executeNormal
   does-one o k v h e = rw h e
 
-  pub does-zero : (o : Niladic) → a ≡ Zero o → g ≡ interpret logging (executeNiladic c o) t → g ≡ interpret logging (executeNormal c n (actionOf a)) t
+  pub does-zero : (o : Niladic) → a ≡ Zero o → g ≡ interpret logging (executeNiladic c o n) t → g ≡ interpret logging (executeNormal c n (actionOf a)) t
   unfolding executeNormal
   does-zero o h e = rw h e
 
--- an instruction by its length and its action
-pub executed : (c : Cpu) (i : Instruction) (t : Journaled) (g : Response Journaled (Out Cpu)) (n : ℕ) (a : Action) → n ≡ lengthOf i → actionOf a ≡ normal i
-    → g ≡ interpret logging (executeNormal c n (actionOf a)) t → g ≡ interpret logging (execute c i) t
+-- an instruction by its action
+pub executed : (c : Cpu) (i : Instruction) (n : ℕ) (t : Journaled) (g : Response Journaled (Out Cpu)) (a : Action) → actionOf a ≡ normal i
+    → g ≡ interpret logging (executeNormal c n (actionOf a)) t → g ≡ interpret logging (execute c i n) t
 unfolding execute
-executed c i t g n a en ea e = rw (sym en, sym ea) e
+executed c i n t g a ea e = rw (sym ea) e

@@ -31,30 +31,30 @@ module _ (b : Bank) (q : Cache) (p : Program (Out Cpu)) (t : Journaled) (z : Boo
   unfolding privileged
   kernel-gone h g e = rw (sym ez ∙ h) e
 
-module _ (b : Bank) (q : Cache) (o : Niladic) (t : Journaled) where
+module _ (b : Bank) (q : Cache) (o : Niladic) (n : ℕ) (t : Journaled) where
   module _ (g : Response Journaled (Out Cpu)) where
-    pub is-kret : o ≡ niladic.Kret → g ≡ interpret logging (privileged (cpu b q) (kret (cpu b q))) t → g ≡ interpret logging (executeNiladic (cpu b q) o) t
+    pub is-kret : o ≡ niladic.Kret → g ≡ interpret logging (privileged (cpu b q) (kret (cpu b q))) t → g ≡ interpret logging (executeNiladic (cpu b q) o n) t
     unfolding executeNiladic
     is-kret h e = rw h e
 
-    pub is-cret : o ≡ niladic.Cret → g ≡ interpret logging (privileged (cpu b q) (cret (cpu b q))) t → g ≡ interpret logging (executeNiladic (cpu b q) o) t
+    pub is-cret : o ≡ niladic.Cret → g ≡ interpret logging (privileged (cpu b q) (cret (cpu b q))) t → g ≡ interpret logging (executeNiladic (cpu b q) o n) t
     unfolding executeNiladic
     is-cret h e = rw h e
 
-  pub is-nop : o ≡ niladic.Nop → (d : Bank) → Made b d (λ c. pcAdvanced c 1) → response (cpuOut (answerOf 0) d q) t ≡ interpret logging (executeNiladic (cpu b q) o) t
+  pub is-nop : o ≡ niladic.Nop → (d : Bank) → Made b d (λ c. pcAdvanced c n) → response (cpuOut (answerOf 0) d q) t ≡ interpret logging (executeNiladic (cpu b q) o n) t
   unfolding executeNiladic interpret
-  is-nop h d e = rw h (finished 0 d q (pcAdvanced (cpu b q) 1) t (omega arith) (e q))
+  is-nop h d e = rw h (finished 0 d q (pcAdvanced (cpu b q) n) t (omega arith) (e q))
 
   -- s is the bank before PC goes on
-  module _ (s d : Bank) (e : Made s d (λ c. pcAdvanced c 1)) where
-    pub is-testv : o ≡ niladic.Testv → Made b s (λ c. testBit c overflowBit) → response (cpuOut (answerOf 0) d q) t ≡ interpret logging (executeNiladic (cpu b q) o) t
+  module _ (s d : Bank) (e : Made s d (λ c. pcAdvanced c n)) where
+    pub is-testv : o ≡ niladic.Testv → Made b s (λ c. testBit c overflowBit) → response (cpuOut (answerOf 0) d q) t ≡ interpret logging (executeNiladic (cpu b q) o n) t
     unfolding executeNiladic interpret
-    is-testv h f = rw h (finished 0 d q (pcAdvanced (testBit (cpu b q) overflowBit) 1) t (omega arith) (e q ∙ ap (λ (c : Cpu). pcAdvanced c 1) (f q)))
+    is-testv h f = rw h (finished 0 d q (pcAdvanced (testBit (cpu b q) overflowBit) n) t (omega arith) (e q ∙ ap (λ (c : Cpu). pcAdvanced c n) (f q)))
 
-    pub is-testc : o ≡ niladic.Testc → Made b s (λ c. testBit c carryBit) → response (cpuOut (answerOf 0) d q) t ≡ interpret logging (executeNiladic (cpu b q) o) t
+    pub is-testc : o ≡ niladic.Testc → Made b s (λ c. testBit c carryBit) → response (cpuOut (answerOf 0) d q) t ≡ interpret logging (executeNiladic (cpu b q) o n) t
     unfolding executeNiladic interpret
-    is-testc h f = rw h (finished 0 d q (pcAdvanced (testBit (cpu b q) carryBit) 1) t (omega arith) (e q ∙ ap (λ (c : Cpu). pcAdvanced c 1) (f q)))
+    is-testc h f = rw h (finished 0 d q (pcAdvanced (testBit (cpu b q) carryBit) n) t (omega arith) (e q ∙ ap (λ (c : Cpu). pcAdvanced c n) (f q)))
 
-    pub is-clre : o ≡ niladic.Clre → Made b s (λ c. withGuard c false) → response (cpuOut (answerOf 0) d q) t ≡ interpret logging (executeNiladic (cpu b q) o) t
+    pub is-clre : o ≡ niladic.Clre → Made b s (λ c. withGuard c false) → response (cpuOut (answerOf 0) d q) t ≡ interpret logging (executeNiladic (cpu b q) o n) t
     unfolding executeNiladic interpret
-    is-clre h f = rw h (finished 0 d q (pcAdvanced (withGuard (cpu b q) false) 1) t (omega arith) (e q ∙ ap (λ (c : Cpu). pcAdvanced c 1) (f q)))
+    is-clre h f = rw h (finished 0 d q (pcAdvanced (withGuard (cpu b q) false) n) t (omega arith) (e q ∙ ap (λ (c : Cpu). pcAdvanced c n) (f q)))

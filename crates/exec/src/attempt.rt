@@ -3,7 +3,6 @@ use crate::execute::execute;
 use access_spec::Journal;
 use datapath::text::fetch_text;
 use decode::decode_text;
-use encode::length_of;
 use exec_event_frames::sequences::unimplemented_sequence;
 use exec_rows::Action;
 use exec_rows::forms::action_of;
@@ -66,7 +65,7 @@ fn class_of(a: Action) -> u64
     if k < 2 { k as u64 } else { 2 }
 }
 
-// An instruction executed, with what tracing makes of it.
+// An instruction of n parcels executed, with what tracing makes of it.
 fn act_on(
     m: &mut [u8],
     journal: &mut Journal,
@@ -74,11 +73,11 @@ fn act_on(
     r: &mut Bank,
     confined: bool,
     i: Instruction,
+    n: u32,
 ) -> u64
-    ensures { λ x. ⌜ Attempts x m journal q r (λ c. actOf confined c (toInstruction i)) ⌝ }
+    ensures { λ x. ⌜ Attempts x m journal q r (λ c. actOf confined c (toInstruction i n)) ⌝ }
 {
     let a = action_of(i);
-    let n = length_of(i);
     let class = class_of(a);
     let stops = confined & is_kcall(a);
     if stops {
@@ -124,11 +123,10 @@ fn act_on_answer(
     ensures { λ x. ⌜ Attempts x m journal q r (λ c. onward (actOf confined c) (dispatch c a)) ⌝ }
 {
     match a {
-        Decoded::Is(i) => act_on(m, journal, q, r, confined, i),
+        Decoded::Is(i, n) => act_on(m, journal, q, r, confined, i, n),
         Decoded::Illegal => raised(ILLEGAL_INSTRUCTION),
-        Decoded::Unimplemented => act_unimplemented(m, journal, q, r, confined, 12),
-        Decoded::Trap => act_unimplemented(m, journal, q, r, confined, 8),
-        Decoded::Refused(_) => raised(ILLEGAL_INSTRUCTION),
+        Decoded::Unimplemented(vector) => act_unimplemented(m, journal, q, r, confined, vector),
+        Decoded::Truncated => raised(ILLEGAL_INSTRUCTION),
     }
 }
 

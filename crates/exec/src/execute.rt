@@ -51,6 +51,6 @@ pub fn execute(
     match a {
         Action::Two(wide, task, s, d) => execute_two(m, journal, q, r, n, wide, task, s, d),
         Action::One(o, mode, v) => execute_monadic(m, journal, q, r, o, mode, v, n),
-        Action::Zero(o) => execute_niladic(m, journal, q, r, o),
+        Action::Zero(o) => execute_niladic(m, journal, q, r, o, n),
     }
 }

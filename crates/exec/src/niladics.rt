@@ -34,35 +34,37 @@ fn cret_privileged(m: &mut [u8], journal: &mut Journal, q: &mut Quads, r: &mut B
     }
 }
 
+// n is the parcels of the instruction.
 pub fn execute_niladic(
     m: &mut [u8],
     journal: &mut Journal,
     q: &mut Quads,
     r: &mut Bank,
     o: Niladic,
+    n: u32,
 ) -> u64
-    ensures { λ x. ⌜ Ends x m journal q r (λ c. executeNiladic c o) ⌝ }
+    ensures { λ x. ⌜ Ends x m journal q r (λ c. executeNiladic c o n) ⌝ }
 {
     match o {
         Niladic::Kret => kret_privileged(m, journal, r),
         Niladic::Cret => cret_privileged(m, journal, q, r),
         Niladic::Nop => {
-            advance_pc(r, 1);
+            advance_pc(r, n);
             0
         }
         Niladic::Testv => {
             tested(r, 6);
-            advance_pc(r, 1);
+            advance_pc(r, n);
             0
         }
         Niladic::Testc => {
             tested(r, 5);
-            advance_pc(r, 1);
+            advance_pc(r, n);
             0
         }
         Niladic::Clre => {
             with_guard(r, false);
-            advance_pc(r, 1);
+            advance_pc(r, n);
             0
         }
     }

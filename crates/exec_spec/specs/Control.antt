@@ -22,7 +22,8 @@ use Rattle.machine.specs.Bits.{guardBit}
 abbrev pub jumped : Cpu → ℕ → Cpu
 jumped c a = with c pc (a / 2 * 2)
 
--- the address of the instruction in line, n parcels on
+-- request (g): "The next address in line, which CALL saves and where a step that loads no other PC goes on, is PC plus twice
+-- that", the carried length n, "modulo 2^32"
 abbrev pub nextPc : Cpu → ℕ → ℕ
 nextPc c n = plusOf (reg c pc) (n * 2)
 

@@ -17,7 +17,6 @@ use Rattle.isa.specs.declared.Wide.{Wide}
 use Rattle.isa.specs.declared.Wide.the-variants.{Five}
 use Rattle.isa.specs.declared.Instruction.{Instruction}
 use Rattle.isa.specs.declared.Instruction.the-variants as instruction
-use Rattle.isa.specs.Encode.{lengthOf}
 use Rattle.access_spec.specs.Program.{Program}
 use Rattle.machine.specs.Status.{Cpu}
 use Rattle.datapath.specs.Parts.{Out, done, _>>=_}
@@ -142,7 +141,7 @@ normal (instruction.Short i) = shortNormal (i .row) (i .source) (i .destination)
 normal (instruction.Dyadic i) = twoOperands (i .wide) (taskOf (i .row)) (i .source) (i .destination)
 normal (instruction.Monadic i) = oneOperand (monadicOperation (i .row)) (i .mode) (i .value)
 
--- n is the length in parcels
+-- n is the length in parcels that the decoder's answer carries: the next address in line is PC plus twice that
 unfoldable pub executeMonadic : Cpu → Monadic → MonadicMode → ℕ → ℕ → Program (Out Cpu)
 executeMonadic c monadic.Kcall m v n = kcall c m v n
 executeMonadic c monadic.Call m v n = call c m v n
@@ -156,23 +155,23 @@ executeMonadic c monadic.Ldraa m v n = loadAddress c m v n
 executeMonadic c monadic.Flush m v n = done (pcAdvanced c n)
 executeMonadic c monadic.Popn m v n = done (pcAdvanced (released c v) n)
 
-unfoldable pub executeNiladic : Cpu → Niladic → Program (Out Cpu)
-executeNiladic c niladic.Kret = privileged c (kret c)
-executeNiladic c niladic.Cret = privileged c (cret c)
-executeNiladic c niladic.Nop = done (pcAdvanced c 1)
-executeNiladic c niladic.Testv = done (pcAdvanced (testBit c overflowBit) 1)
-executeNiladic c niladic.Testc = done (pcAdvanced (testBit c carryBit) 1)
-executeNiladic c niladic.Clre = done (pcAdvanced (withGuard c false) 1)
+unfoldable pub executeNiladic : Cpu → Niladic → ℕ → Program (Out Cpu)
+executeNiladic c niladic.Kret n = privileged c (kret c)
+executeNiladic c niladic.Cret n = privileged c (cret c)
+executeNiladic c niladic.Nop n = done (pcAdvanced c n)
+executeNiladic c niladic.Testv n = done (pcAdvanced (testBit c overflowBit) n)
+executeNiladic c niladic.Testc n = done (pcAdvanced (testBit c carryBit) n)
+executeNiladic c niladic.Clre n = done (pcAdvanced (withGuard c false) n)
 
 unfoldable pub executeNormal : Cpu → ℕ → Normal → Program (Out Cpu)
 executeNormal c n (twoOperands w t s d) = do
   c ← two.dyadic c w t s d
   done (pcAdvanced c n)
 executeNormal c n (oneOperand o m v) = executeMonadic c o m v n
-executeNormal c n (noOperand o) = executeNiladic c o
+executeNormal c n (noOperand o) = executeNiladic c o n
 
-unfoldable pub execute : Cpu → Instruction → Program (Out Cpu)
-execute c i = executeNormal c (lengthOf i) (normal i)
+unfoldable pub execute : Cpu → Instruction → ℕ → Program (Out Cpu)
+execute c i n = executeNormal c n (normal i)
 
 -- ---- what tracing makes of an instruction (Table 1-8, 1.10.3): every instruction, those that may jump, or none
 

@@ -7,8 +7,7 @@ use mathlib.Core.List.{List, [], _∷_}
 use native.Mathlib.Omega.{arith}
 use lib.Dec.{eqb, ltb}
 use lib.ListN.{length, getD}
-use borrow.Author.Tests.{le-leb, lt-ltb, le-ltb, ltb-true, ltb-false, ne-eqb}
-use Rattle.word.proofs.CaseLaws.{by-test}
+use borrow.Author.Tests.{le-leb, lt-ltb, le-ltb, ne-eqb}
 use Rattle.word.specs.Sums.{plusOf}
 use Rattle.memory.specs.Answers.{good}
 use Rattle.memory.specs.Bytes.{Memory, byteAt, number, load}
@@ -21,16 +20,15 @@ use Rattle.access.specs.Followed.{regimeFor}
 use Rattle.access.specs.EffectFree.{effectFreePlace, EffectFree}
 use Rattle.access.proofs.EffectFreeLaws.{fetch-effect-free, effect-free-beside, place-effect-free}
 use Rattle.datapath.specs.Parts.{done, parcelRequest}
-use Rattle.datapath.specs.Text.{fetchParcel, fetchParcels, following, fetchAfter, fetchText}
+use Rattle.isa.specs.Lengths.{following}
+use Rattle.datapath.specs.Text.{fetchParcel, fetchParcels, fetchAfter, fetchText}
 use Rattle.isa.specs.Decode.{decodeShort, decodeWide, decodeBare, decodeOf, cpuPrefix, textOf}
 use Rattle.isa.specs.declared.Wide.the-variants.{Three, Five}
-use Rattle.isa.specs.Encode.{wideLength}
 use Rattle.decode.specs.Forms.{formOf, afterOf}
 use Rattle.fast_decode.specs.declared.Plan.{Plan}
 use Rattle.fast_decode.specs.Plans.{planOf}
-use Rattle.fast_decode.proofs.AnswerLaws.{Long, short-long, wide-long}
 use Rattle.fast_dyadic.specs.Fast.{gives}
-use Rattle.fast.specs.Performed.{parcelAt, parcelsFrom, textAt, lengthAt}
+use Rattle.fast.specs.Performed.{parcelAt, parcelsFrom, textAt}
 use Rattle.fast_dyadic.proofs.GiveLaws.{gives-then, gives-done}
 use Rattle.fast_dyadic.proofs.AccessLaws.{regime-is}
 
@@ -160,11 +158,3 @@ module _ (m : Memory) (k p : ℕ) (ep : p ≡ parcelAt m k) (unprefixed : p ≡ 
   pub wide-planned : (x : Plan) → 0x8000 ≤ p → (c d e f : ℕ) → c ≡ parcelAt m (k + 2) → d ≡ parcelAt m (k + 4) → e ≡ parcelAt m (k + 6) → f ≡ parcelAt m (k + 8)
       → x ≡ planOf (decodeWide false (afterOf (formOf p)) p c d e f) → x ≡ planOf (decodeOf (textAt m k))
   wide-planned x h c d e f ec ed ee ef g = g ∙ ap planOf (wide-decoded h (afterOf (formOf p)) c d e f (after-is (ltb p 0xC000)) ec ed ee ef)
-
-  -- an instruction is as long as its first parcel says
-  pub text-long : Long (lengthAt p) (decodeOf (textAt m k))
-  text-long =
-      by-test (ltb p 0x8000)
-      (λ e. rw e (subst (Long 1) (short-decoded (ltb-true p 0x8000 e)) (short-long p)))
-      (λ e. rw e (subst (Long (wideLength (formOf p))) (wide-decoded (ltb-false p 0x8000 e) (cond (ltb p 0xC000) 2 4) (parcelAt m (k + 2)) (parcelAt m (k + 4)) (parcelAt m (k + 6)) (parcelAt m (k + 8)) refl refl refl refl refl)
-      (wide-long (cond (ltb p 0xC000) 2 4) p (parcelAt m (k + 2)) (parcelAt m (k + 4)) (parcelAt m (k + 6)) (parcelAt m (k + 8)))))

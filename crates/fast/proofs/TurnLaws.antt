@@ -47,23 +47,23 @@ module _ (c d : Cpu) (m n : Memory) (w : Performed c m d n) where
   abbrev kind : Traced
   kind = traced (normal (w .instruction))
 
-  acted : gives (act c (toInstruction (w .instruction))) m (finished kind d) n
+  acted : gives (act c (toInstruction (w .instruction) (w .parcels))) m (finished kind d) n
   unfolding act
-  acted = gives-then (execute c (w .instruction)) (λ e. done (finished kind e)) m n n d (finished kind d) (w .instructionDone .executed) (gives-done (done (finished kind d)) (finished kind d) refl n)
+  acted = gives-then (execute c (w .instruction) (w .parcels)) (λ e. done (finished kind e)) m n n d (finished kind d) (w .instructionDone .executed) (gives-done (done (finished kind d)) (finished kind d) refl n)
 
   attempted : gives (attempt c) m (finished kind d) n
   unfolding attempt
-  attempted = gives-then (fetchInstruction c) (λ i. act c i) m m n (toInstruction (w .instruction)) (finished kind d) (w .fetched) acted
+  attempted = gives-then (fetchInstruction c) (λ i. act c i) m m n (toInstruction (w .instruction) (w .parcels)) (finished kind d) (w .fetched) acted
 
-  carried-so : gives (actConfined c (toInstruction (w .instruction))) m (carriedOut kind d) n
+  carried-so : gives (actConfined c (toInstruction (w .instruction) (w .parcels))) m (carriedOut kind d) n
   unfolding actConfined
   carried-so =
       rw (w .instructionDone .free)
-      (gives-then (execute c (w .instruction)) (λ e. ret (ok (carriedOut kind e))) m n n d (carriedOut kind d) (w .instructionDone .executed) (gives-done (done (carriedOut kind d)) (carriedOut kind d) refl n))
+      (gives-then (execute c (w .instruction) (w .parcels)) (λ e. ret (ok (carriedOut kind e))) m n n d (carriedOut kind d) (w .instructionDone .executed) (gives-done (done (carriedOut kind d)) (carriedOut kind d) refl n))
 
   confined-so : gives (confinedAttempt c) m (carriedOut kind d) n
   unfolding confinedAttempt
-  confined-so = gives-then (fetchInstruction c) (λ i. actConfined c i) m m n (toInstruction (w .instruction)) (carriedOut kind d) (w .fetched) carried-so
+  confined-so = gives-then (fetchInstruction c) (λ i. actConfined c i) m m n (toInstruction (w .instruction) (w .parcels)) (carriedOut kind d) (w .fetched) carried-so
 
 -- ---- the turn: e is the bank after the instruction, f with the timers too
 

@@ -1,6 +1,5 @@
 // The instruction at PC, by its plan.
 use crate::flow::fast_one;
-use crate::texts::length_at;
 use crate::texts::parcel;
 use crate::texts::plan_at;
 use crate::texts::text_place;
@@ -16,13 +15,13 @@ ghost use Rattle.datapath.specs.Contracts.{entryCpu, exitCpu};
 ghost use Rattle.fast_dyadic.specs.Contracts.{AllUnchanged};
 ghost use Rattle.fast.specs.Performed.{Executed, Performed};
 
-// A plan of n parcels.
-fn perform(m: &mut [u8], q: &mut Quads, r: &mut Bank, n: u32, plan: Plan) -> bool
-    ensures { λ z. ⌜ IfElse z (Executed plan n (entryCpu q r) (now (m .entry)) (exitCpu q r) (now (m .exit))) (AllUnchanged m q r) ⌝ }
+// A plan, by its length.
+fn perform(m: &mut [u8], q: &mut Quads, r: &mut Bank, plan: Plan) -> bool
+    ensures { λ z. ⌜ IfElse z (Executed plan (entryCpu q r) (now (m .entry)) (exitCpu q r) (now (m .exit))) (AllUnchanged m q r) ⌝ }
 {
     match plan {
-        Plan::Two(wide, t, a, s, b, d) => fast_two(m, q, r, n, wide, t, a, s, b, d),
-        Plan::One(o, mode, v) => fast_one(m, q, r, o, mode, v, n),
+        Plan::Two(n, wide, t, a, s, b, d) => fast_two(m, q, r, n, wide, t, a, s, b, d),
+        Plan::One(n, o, mode, v) => fast_one(m, q, r, o, mode, v, n),
         Plan::Other => false,
     }
 }
@@ -42,5 +41,5 @@ pub(crate) fn fast_attempt(m: &mut [u8], q: &mut Quads, r: &mut Bank) -> bool
         return false;
     }
     let plan = plan_at(m, i, p);
-    perform(m, q, r, length_at(p), plan)
+    perform(m, q, r, plan)
 }

@@ -17,7 +17,7 @@ ghost use Rattle.machine.specs.Status.{regime};
 ghost use Rattle.access.specs.EffectFree.{EffectFree};
 ghost use Rattle.isa.specs.Decode.{decodeOf, cpuPrefix};
 ghost use Rattle.fast_decode.specs.Plans.{planOf};
-ghost use Rattle.fast.specs.Performed.{parcelAt, textAt, lengthAt};
+ghost use Rattle.fast.specs.Performed.{parcelAt, textAt};
 
 // The place of the ten bytes from the address a, if they lie in one page and in memory; else 2^32.
 pub(crate) fn text_place(m: &[u8], r: &Bank, a: u32) -> u64
@@ -63,15 +63,4 @@ pub(crate) fn plan_at(m: &[u8], i: usize, p: u16) -> Plan
         parcel(m, i + 6),
         parcel(m, i + 8),
     )
-}
-
-// How many parcels it has.
-pub(crate) fn length_at(p: u16) -> u32
-    ensures { λ x. ⌜ x ≡ lengthAt p ⌝ }
-{
-    let form = p >> 14;
-    if form < 2 {
-        return 1;
-    }
-    if form < 3 { 3 } else { 5 }
 }

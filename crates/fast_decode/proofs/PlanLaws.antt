@@ -1,13 +1,13 @@
 -- The ways out of the functions that make a plan.
 -- Assumes nothing.
-use Prim.Native.Nat.{ℕ, _/_, _%_, _≤_}
+use Prim.Native.Nat.{ℕ, _+_, _/_, _%_, _≤_}
 use mathlib.Core.Path.{_≡_, refl, sym, ap, _∙_}
 use mathlib.Core.Bool.{Bool, true, false, cond}
 use native.Mathlib.Omega.{arith}
 use lib.Dec.{ltb}
 use Rattle.word.proofs.CaseLaws.{either}
 use Rattle.isa.specs.declared.Decoded.{Decoded}
-use Rattle.isa.specs.declared.Decoded.the-variants.{Is, Illegal, Unimplemented}
+use Rattle.isa.specs.declared.Decoded.the-variants.{Illegal, Unimplemented}
 use Rattle.isa.specs.declared.Instruction.the-variants as instruction
 use Rattle.isa.specs.declared.ShortRow.{ShortRow}
 use Rattle.isa.specs.declared.ShortEntry.{ShortEntry}
@@ -33,7 +33,9 @@ use Rattle.isa.specs.declared.OperandFound.the-variants as found
 use Rattle.isa.specs.declared.Rule.{Rule}
 use Rattle.isa.specs.declared.Rule.the-variants.{OneRegister}
 use Rattle.isa.specs.declared.Wide.{Wide}
-use Rattle.isa.specs.declared.Wide.the-variants.{Five}
+use Rattle.isa.specs.declared.Wide.the-variants.{Three, Five}
+use Rattle.isa.specs.Lengths.{shortLength, wideLength}
+use Rattle.isa.specs.Answers.{unimplementedVector, withLength}
 use Rattle.isa.specs.Fields.{sourceField, destinationField, fieldValue}
 use Rattle.isa.specs.Tables.{shortOf, dyadicOf, generalOf, monadicOf, monadicModeOf}
 use Rattle.isa.specs.Legal.{legalOf, monadicLegalOf}
@@ -56,15 +58,15 @@ use Rattle.fast_decode.specs.Plans.{planned, planOf}
 -- ---- one parcel
 
 module _ (f : ShortForm) (s d : ℕ) where
-  pub form-two : (t : Task) (a b : Mode) → f ≡ form.Two t a b → Two Five t a s b d ≡ planned (formed f s d)
+  pub form-two : (t : Task) (a b : Mode) → f ≡ form.Two t a b → Two shortLength Five t a s b d ≡ planned (formed f s d) shortLength
   form-two t a b e = rw e refl
 
-  pub form-one : (o : Monadic) (k : MonadicMode) → f ≡ form.One o k → One o k s ≡ planned (formed f s d)
+  pub form-one : (o : Monadic) (k : MonadicMode) → f ≡ form.One o k → One shortLength o k s ≡ planned (formed f s d) shortLength
   form-one o k e = rw e refl
 
 module _ (x : Plan) where
   pub row-planned : (w : ShortRow) (s d : FieldMode) (p u v : ℕ) (f : ShortForm) → formed f ≡ shortNormal w → u ≡ fieldValue s (sourceField s p) → v ≡ fieldValue d (destinationField p)
-      → x ≡ planned (formed f u v) → x ≡ planOf (shortAnswer (short.Row w s d) p)
+      → x ≡ planned (formed f u v) shortLength → x ≡ planOf (shortAnswer (short.Row w s d) p)
   row-planned w s d p u v f e eu ev g = g ∙ rw (e, eu, ev) refl
 
   pub entry-planned : (e g : ShortEntry) (p : ℕ) → e ≡ g → x ≡ planOf (shortAnswer g p) → x ≡ planOf (shortAnswer e p)
@@ -80,12 +82,12 @@ both-other : (b : Bool) (x y : Decoded) → planOf x ≡ Other → planOf y ≡ 
 both-other b x y e f = sym (either (λ z. planOf z ≡ Other) b x y e f)
 
 module _ (w : Wide) (r : DyadicRow) (l : Rule) where
-  row-other : (s d : Operand) → planOf (Is (instruction.Dyadic (record { row = r; wide = w; prefix = false; source = s; destination = d }))) ≡ Other → Other ≡ planOf (dyadicAnswer (entry.Row r l) w false s d)
-  row-other s d e = both-other (legalOf l s d) (Is (instruction.Dyadic (record { row = r; wide = w; prefix = false; source = s; destination = d }))) Illegal e refl
+  row-other : (s d : Operand) → planOf (withLength (instruction.Dyadic (record { row = r; wide = w; prefix = false; source = s; destination = d }))) ≡ Other → Other ≡ planOf (dyadicAnswer (entry.Row r l) w false s d)
+  row-other s d e = both-other (legalOf l s d) (withLength (instruction.Dyadic (record { row = r; wide = w; prefix = false; source = s; destination = d }))) Illegal e refl
 
   module _ (a c : Mode) (v z : ℕ) (b : Bool) (e : b ≡ legalOf l (General a v) (General c z)) where
-    pub operands-legal : (t : Task) → b ≡ true → t ≡ taskOf r → Two w t a v c z ≡ planOf (dyadicAnswer (entry.Row r l) w false (General a v) (General c z))
-    operands-legal t h et = rw (← e, h, et) refl
+    pub operands-legal : (t : Task) (n : ℕ) → b ≡ true → t ≡ taskOf r → n ≡ wideLength w → Two n w t a v c z ≡ planOf (dyadicAnswer (entry.Row r l) w false (General a v) (General c z))
+    operands-legal t n h et en = let bare : wideLength w + 0 ≡ wideLength w = omega arith in rw (← e, h, et, en, bare) refl
 
     pub operands-illegal : b ≡ false → Other ≡ planOf (dyadicAnswer (entry.Row r l) w false (General a v) (General c z))
     operands-illegal h = rw (← e, h) refl
@@ -125,7 +127,7 @@ module _ (w : Wide) (e : DyadicEntry) (f g : OperandFound) where
   dyadic-gap q = rw q (go f g)
     where
       go : (j k : OperandFound) → Other ≡ planOf (bothFound entry.Unimplemented w false j k)
-      go (found.Is s) (found.Is d) = both-other (legalOf OneRegister s d) Unimplemented Illegal refl refl
+      go (found.Is s) (found.Is d) = both-other (legalOf OneRegister s d) (Unimplemented unimplementedVector) Illegal refl refl
       go (found.Is s) found.Nothing = refl
       go found.Nothing (found.Is d) = refl
       go found.Nothing found.Nothing = refl
@@ -148,8 +150,8 @@ dyadic-planned x w p u v k m n e s d ek ee em es en ed g =
 
 module _ (r : MonadicRow) (l : MonadicRule) (v : ℕ) (e : MonadicModeEntry) where
   module _ (k : MonadicMode) (b : Bool) (q : e ≡ place.Is k) (eb : b ≡ monadicLegalOf l k v) where
-    pub mode-legal : (o : Monadic) → b ≡ true → o ≡ actionOf r → One o k v ≡ planOf (monadicFound r l false e v)
-    mode-legal o t eo = rw (q, ← eb, t, eo) refl
+    pub mode-legal : (o : Monadic) (n : ℕ) → b ≡ true → o ≡ actionOf r → n ≡ wideLength Three → One n o k v ≡ planOf (monadicFound r l false e v)
+    mode-legal o n t eo en = rw (q, ← eb, t, eo, en) refl
 
     pub mode-illegal : b ≡ false → Other ≡ planOf (monadicFound r l false e v)
     mode-illegal t = rw (q, ← eb, t) refl
@@ -162,7 +164,7 @@ module _ (x : Plan) (p v k m : ℕ) (e : MonadicEntry) (ek : k ≡ p % 16) (ee :
   monadic-row r l j em q ej g = from-entry m em (rw (q, ← ej) g)
 
   pub monadic-gap : x ≡ Other → e ≡ single.Unimplemented → x ≡ planOf (decodeMonadic false p v)
-  monadic-gap ex q = from-entry (p / 16 % 16) refl (ex ∙ rw q (both-other (ltb (p / 16 % 16) 0xC) Illegal Unimplemented refl refl))
+  monadic-gap ex q = from-entry (p / 16 % 16) refl (ex ∙ rw q (both-other (ltb (p / 16 % 16) 0xC) Illegal (Unimplemented unimplementedVector) refl refl))
 
   pub monadic-unlisted : x ≡ Other → e ≡ single.Unlisted → x ≡ planOf (decodeMonadic false p v)
   monadic-unlisted ex q = from-entry (p / 16 % 16) refl (ex ∙ rw q refl)

@@ -10,9 +10,9 @@ use isa::Wide;
 pub mod short;
 pub mod wide;
 
-// Two operands that are no registers, one operand, or another instruction or none.
+// The length in parcels with two operands that are no registers, or with one operand; or another instruction or none.
 pub enum Plan {
-    Two(Wide, Task, Mode, u32, Mode, u32),
-    One(Monadic, MonadicMode, u32),
+    Two(u32, Wide, Task, Mode, u32, Mode, u32),
+    One(u32, Monadic, MonadicMode, u32),
     Other,
 }

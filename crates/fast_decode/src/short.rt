@@ -10,20 +10,22 @@ use isa::FieldMode;
 use isa::ShortEntry;
 use isa::ShortRow;
 use isa::Wide;
+use isa::lengths::SHORT_LENGTH;
 use word::fields::field;
 ghost use mathlib.Core.Path.{_≡_};
 ghost use Rattle.isa.specs.declared.ShortEntry.the-variants as entry;
+ghost use Rattle.isa.specs.Lengths.{shortLength};
 ghost use Rattle.isa.specs.Decode.{shortAnswer, decodeShort};
 ghost use Rattle.exec_rows.specs.Rows.{formed};
 ghost use Rattle.fast_decode.specs.Plans.{planned, planOf};
 
 // s and d are the values of its fields.
 fn plan_form(form: ShortForm, s: u32, d: u32) -> Plan
-    ensures { λ x. ⌜ x ≡ planned (formed form s d) ⌝ }
+    ensures { λ x. ⌜ x ≡ planned (formed form s d) shortLength ⌝ }
 {
     match form {
-        ShortForm::Two(t, a, b) => Plan::Two(Wide::Five, t, a, s, b, d),
-        ShortForm::One(o, mode) => Plan::One(o, mode, s),
+        ShortForm::Two(t, a, b) => Plan::Two(SHORT_LENGTH, Wide::Five, t, a, s, b, d),
+        ShortForm::One(o, mode) => Plan::One(SHORT_LENGTH, o, mode, s),
         ShortForm::Zero(_) => Plan::Other,
     }
 }

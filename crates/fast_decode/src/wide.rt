@@ -25,6 +25,7 @@ use isa::MonadicRule;
 use isa::Operand;
 use isa::Rule;
 use isa::Wide;
+use isa::lengths::wide_length;
 use word::fields::field;
 use word::fields::joined;
 ghost use mathlib.Core.Path.{_≡_};
@@ -39,7 +40,7 @@ fn plan_operands(wide: Wide, row: DyadicRow, rule: Rule, a: Mode, v: u32, b: Mod
     ensures { λ z. ⌜ z ≡ planOf (dyadicAnswer (entry.Row row rule) wide false (operand.General a v) (operand.General b w)) ⌝ }
 {
     if legal(rule, Operand::General(a, v), Operand::General(b, w)) {
-        return Plan::Two(wide, task_of(row), a, v, b, w);
+        return Plan::Two(wide_length(wide), wide, task_of(row), a, v, b, w);
     }
     Plan::Other
 }
@@ -94,7 +95,7 @@ fn plan_mode(row: MonadicRow, rule: MonadicRule, e: MonadicModeEntry, v: u32) ->
     match e {
         MonadicModeEntry::Is(mode) => {
             if monadic_legal(rule, mode, v) {
-                return Plan::One(monadic_operation(row), mode, v);
+                return Plan::One(wide_length(Wide::Three), monadic_operation(row), mode, v);
             }
             Plan::Other
         }

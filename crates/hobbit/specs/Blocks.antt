@@ -14,7 +14,7 @@ use Rattle.hobbit.specs.declared.HobbitAnswer.{HobbitAnswer}
 
 -- the number of this interface, HOBBIT_INTERFACE of the header
 abbrev pub interface : ℕ
-interface = 1
+interface = 2
 
 -- the board that two blocks and a memory hold
 abbrev pub boardIn : List ℕ → List ℕ → Memory → Board

@@ -18,7 +18,7 @@ ghost use Rattle.run_spec.specs.Run.{run as runOf};
 ghost use Rattle.run.specs.Code.{oneStep};
 ghost use Rattle.hobbit.specs.Blocks.{interface, runAnswer, runAnswerOf, stepAnswer, stepAnswerOf, exitBlocks, entryBoardIn};
 
-const INTERFACE: u32 = 1;
+const INTERFACE: u32 = 2;
 
 // The number of this interface: the header's HOBBIT_INTERFACE.
 #[no_mangle]

@@ -1,4 +1,4 @@
-// Parcels to an instruction's eight words and back (the crate numbering says what they are).
+// Parcels to an instruction's eight words and back (the crate hobbit_blocks says what they are).
 use hobbit_blocks::decode_into;
 use hobbit_blocks::encode_from;
 ghost use mathlib.Core.Path.{_≡_};

@@ -1,7 +1,7 @@
 -- The block of an instruction names it, and a block that names an instruction is that instruction's block. That the tables
 -- have a row where the lists have it, and the other way round, is from the round trip of decoder and encoder.
 -- Assumes nothing.
-use Prim.Native.Nat.{ℕ, zero, suc, zero-le, _/_, _%_, _<_, _≤_}
+use Prim.Native.Nat.{ℕ, zero, suc, zero-le, _+_, _/_, _%_, _<_, _≤_}
 use mathlib.Core.Path.{_≡_, refl, sym, ap, subst, _∙_}
 use mathlib.Core.Bool.{Bool, true, false, _&&_}
 use mathlib.Core.List.{List, [], _∷_}
@@ -22,6 +22,7 @@ use Rattle.isa.specs.declared.ShortInstruction.{ShortInstruction}
 use Rattle.isa.specs.declared.DyadicRow.{DyadicRow}
 use Rattle.isa.specs.declared.DyadicEntry.{DyadicEntry}
 use Rattle.isa.specs.declared.DyadicEntry.the-variants as dyadic
+use Rattle.isa.specs.declared.MonadicRow.{MonadicRow}
 use Rattle.isa.specs.declared.MonadicEntry.{MonadicEntry}
 use Rattle.isa.specs.declared.MonadicEntry.the-variants as monadic
 use Rattle.isa.specs.declared.MonadicMode.{MonadicMode}
@@ -34,16 +35,17 @@ use Rattle.isa.specs.declared.Wide.{Wide}
 use Rattle.isa.specs.declared.Wide.the-variants.{Three, Five}
 use Rattle.isa.specs.declared.Instruction.{Instruction}
 use Rattle.isa.specs.declared.Instruction.the-variants as instruction
-use Rattle.isa.specs.declared.Decoded.the-variants as answer
+use Rattle.isa.specs.Lengths.{shortLength, wideLength, prefixLength, lengthOf}
+use Rattle.isa.specs.Answers.{withLength}
 use Rattle.isa.specs.Tables.{shortOf, dyadicTable, dyadicOf, monadicTable, monadicOf}
 use Rattle.isa.specs.Decode.{shortEntry, shortAnswer, shortInstruction, decodeShort}
 use Rattle.isa.specs.Encodings.{shortListed, dyadicListed}
-use Rattle.isa.specs.Encode.{rawField, sourcePlace, shortParcel, operandRaw, wideLength, prefixLength, modeCode}
+use Rattle.isa.specs.Encode.{rawField, sourcePlace, shortParcel, operandRaw, modeCode}
 use Rattle.isa.proofs.BoundLaws.{operand-lt}
 use Rattle.roundtrip.proofs.RowLaws as short-rows
 use Rattle.roundtrip.proofs.DyadicTableLaws as dyadics
 use Rattle.roundtrip.proofs.MonadicLaws as monadics
-use Rattle.hobbit_blocks.specs.Numbering.{named, nothing, operandMode, monadicModePlace, blockOf, shortNamed, isShort, shortIn, operandIn, isDyadic, dyadicNamed, dyadicIn, monadicModeIn, monadicNamed, isMonadic, monadicIn, formIn, instructionIn}
+use Rattle.hobbit_blocks.specs.Numbering.{named, nothing, operandMode, monadicModePlace, blockOf, shortNamed, isShort, shortIn, lengthAgrees, operandIn, isDyadic, dyadicNamed, dyadicIn, monadicModeIn, monadicNamed, isMonadic, monadicIn, kindIn, instructionIn}
 
 -- ---- the parts of an instruction
 
@@ -64,7 +66,7 @@ bare : (l : ShortListed) → shortParcel l 0 0 ≡ l .base
 bare l = omega (arith, no-bits (l .source) .0, no-bits (l .destination) .1)
 
 -- what decodes to an instruction is named by its row
-decoded-named : (e : ShortEntry) (p : ℕ) (i : ShortInstruction) (x y : ℕ) → shortListed (i .row) .base ≡ p → shortAnswer e p ≡ answer.Is (instruction.Short i)
+decoded-named : (e : ShortEntry) (p : ℕ) (i : ShortInstruction) (x y : ℕ) → shortListed (i .row) .base ≡ p → shortAnswer e p ≡ withLength (instruction.Short i)
     → shortNamed e p x y ≡ named (instruction.Short (record { row = i .row; source = x; destination = y }))
 decoded-named (short.Row q s d) p i x y h e =
     let j : shortInstruction q s d p ≡ i = cc in
@@ -121,18 +123,26 @@ dyadic-back q w p a b =
     simp (prefix-back p .0, prefix-back p .1, operand-back a .0, operand-back a .1, operand-back b .0, operand-back b .1, dyadics.row-back q)
 
 dyadic-block : (q : DyadicRow) (w : Wide) (p : Bool) (a b : Operand)
-    → instructionIn (blockOf (instruction.Dyadic (record { row = q; wide = w; prefix = p; source = a; destination = b })))
+    → instructionIn (blockOf (instruction.Dyadic (record { row = q; wide = w; prefix = p; source = a; destination = b })) (wideLength w + prefixLength p))
     ≡ named (instruction.Dyadic (record { row = q; wide = w; prefix = p; source = a; destination = b }))
-unfolding instructionIn formIn
-dyadic-block q Three p a b = dyadic-back q Three p a b
-dyadic-block q Five p a b = dyadic-back q Five p a b
+unfolding instructionIn kindIn
+dyadic-block q Three true a b = dyadic-back q Three true a b
+dyadic-block q Three false a b = dyadic-back q Three false a b
+dyadic-block q Five true a b = dyadic-back q Five true a b
+dyadic-block q Five false a b = dyadic-back q Five false a b
 
-pub named-block : (i : Instruction) → instructionIn (blockOf i) ≡ named i
-unfolding instructionIn formIn shortIn monadicIn
+monadic-block : (q : MonadicRow) (p : Bool) (m : MonadicMode) (v : ℕ)
+    → instructionIn (blockOf (instruction.Monadic (record { row = q; prefix = p; mode = m; value = v })) (wideLength Three + prefixLength p))
+    ≡ named (instruction.Monadic (record { row = q; prefix = p; mode = m; value = v }))
+unfolding instructionIn kindIn monadicIn
+monadic-block q true m v = simp (single-back m, monadics.row-back q)
+monadic-block q false m v = simp (single-back m, monadics.row-back q)
+
+pub named-block : (i : Instruction) → instructionIn (blockOf i (lengthOf i)) ≡ named i
+unfolding instructionIn kindIn shortIn
 named-block (instruction.Short i) = simp (lt-ltb _ 0x8000 (decoded (i .row) .below), short-back (i .row) (i .source) (i .destination))
 named-block (instruction.Dyadic i) = dyadic-block (i .row) (i .wide) (i .prefix) (i .source) (i .destination)
-named-block (instruction.Monadic i) =
-    simp (prefix-back (i .prefix) .0, prefix-back (i .prefix) .1, single-back (i .mode), monadics.row-back (i .row))
+named-block (instruction.Monadic i) = monadic-block (i .row) (i .prefix) (i .mode) (i .value)
 
 -- ---- the words of a block
 
@@ -190,10 +200,10 @@ all-four a b c d h =
     (and-left a b l, and-right a b l, and-right (a && b) c k, and-right (a && b && c) d h)
 
 abbrev block : ℕ → ℕ → ℕ → ℕ → ℕ → ℕ → ℕ → ℕ → List ℕ
-block f r w p s x d y = f ∷ r ∷ w ∷ p ∷ s ∷ x ∷ d ∷ y ∷ []
+block k r w p s x d y = k ∷ r ∷ w ∷ p ∷ s ∷ x ∷ d ∷ y ∷ []
 
 module _ (r w p s x d y : ℕ) (i : Instruction) where
-  row-words : (e : ShortEntry) → shortNamed e r x y ≡ named i → blockOf i ≡ block 1 r 0 0 0 x 0 y
+  row-words : (e : ShortEntry) → shortNamed e r x y ≡ named i → blockOf i (lengthOf i) ≡ block 1 r shortLength 0 0 x 0 y
   row-words (short.Row q a b) e =
       by-test (eqb (shortListed q .base) r)
       (λ t. rw (one i (instruction.Short (record { row = q; source = x; destination = y })) (simp t at e), eqb-true (shortListed q .base) r t) refl)
@@ -205,19 +215,19 @@ module _ (r w p s x d y : ℕ) (i : Instruction) where
   row-words short.Trap e = no i e
   row-words short.Unlisted e = no i e
 
-  short-words : shortIn r w p s x d y ≡ named i → blockOf i ≡ block 1 r w p s x d y
+  short-words : shortIn r w p s x d y ≡ named i → blockOf i (lengthOf i) ≡ block 1 r w p s x d y
   unfolding shortIn
   short-words e = by-test (isShort r w p s d) held (λ t. no i (simp t at e))
     where
-      held : isShort r w p s d ≡ true → blockOf i ≡ block 1 r w p s x d y
+      held : isShort r w p s d ≡ true → blockOf i (lengthOf i) ≡ block 1 r w p s x d y
       held t =
-          let four = ltb r 0x8000 && eqb w 0 && eqb p 0 && eqb s 0 in
-          let h = all-four (ltb r 0x8000) (eqb w 0) (eqb p 0) (eqb s 0) (and-left four (eqb d 0) t) in
-          rw (eqb-true w 0 (h .1), eqb-true p 0 (h .2), eqb-true s 0 (h .3), eqb-true d 0 (and-right four (eqb d 0) t))
+          let four = ltb r 0x8000 && eqb w shortLength && eqb p 0 && eqb s 0 in
+          let h = all-four (ltb r 0x8000) (eqb w shortLength) (eqb p 0) (eqb s 0) (and-left four (eqb d 0) t) in
+          rw (eqb-true w shortLength (h .1), eqb-true p 0 (h .2), eqb-true s 0 (h .3), eqb-true d 0 (and-right four (eqb d 0) t))
           (row-words (shortEntry (shortOf (r / 1024 % 32)) r) (simp t at e))
 
   both-words : (u : Wide) (e : DyadicEntry) → dyadics.RowThere e r → isDyadic p s d ≡ true
-      → dyadicNamed e u p (operandIn s x) (operandIn d y) ≡ named i → blockOf i ≡ block 2 r (wideLength u) p s x d y
+      → dyadicNamed e u p (operandIn s x) (operandIn d y) ≡ named i → blockOf i (lengthOf i) ≡ block 2 r (wideLength u + prefixLength (eqb p 1)) p s x d y
   both-words u (dyadic.Row q v) t z e =
       let a = ltb p 2 && leb s 16 in
       let h = and-left a (leb d 16) z in
@@ -236,18 +246,18 @@ module _ (r w p s x d y : ℕ) (i : Instruction) where
   both-words u dyadic.Unimplemented t z e = no i e
   both-words u dyadic.Unlisted t z e = no i e
 
-  dyadic-words : (u : Wide) → dyadicIn u r p s x d y ≡ named i → blockOf i ≡ block 2 r (wideLength u) p s x d y
+  dyadic-words : (u : Wide) → dyadicIn u r p s x d y ≡ named i → blockOf i (lengthOf i) ≡ block 2 r (wideLength u + prefixLength (eqb p 1)) p s x d y
   unfolding dyadicIn
   dyadic-words u e = by-test (isDyadic p s d) (λ t. both-words u (dyadicOf r) (dyadic-there r) t (simp t at e)) (λ t. no i (simp t at e))
 
   single-words : (e : MonadicEntry) (f : MonadicModeEntry) → monadics.RowThere e r → Word f s → isMonadic w p d y ≡ true
-      → monadicNamed e p f x ≡ named i → blockOf i ≡ block 3 r w p s x d y
+      → monadicNamed e p f x ≡ named i → blockOf i (lengthOf i) ≡ block 3 r w p s x d y
   single-words (monadic.Row q u) (place.Is m) t k z e =
-      let h = all-four (eqb w 0) (ltb p 2) (eqb d 0) (eqb y 0) z in
+      let h = all-four (lengthAgrees Three w p) (ltb p 2) (eqb d 0) (eqb y 0) z in
       rw (
         one i (instruction.Monadic (record { row = q; prefix = eqb p 1; mode = m; value = x })) e,
         t .0,
-        eqb-true w 0 (h .0),
+        eqb-true w (wideLength Three + prefixLength (eqb p 1)) (h .0),
         prefix-word p (ltb-true p 2 (h .1)),
         k,
         eqb-true d 0 (h .2),
@@ -258,7 +268,7 @@ module _ (r w p s x d y : ℕ) (i : Instruction) where
   single-words monadic.Unimplemented f t k z e = no i e
   single-words monadic.Unlisted f t k z e = no i e
 
-  monadic-words : monadicIn r w p s x d y ≡ named i → blockOf i ≡ block 3 r w p s x d y
+  monadic-words : monadicIn r w p s x d y ≡ named i → blockOf i (lengthOf i) ≡ block 3 r w p s x d y
   unfolding monadicIn
   monadic-words e =
       by-test (isMonadic w p d y)
@@ -266,22 +276,22 @@ module _ (r w p s x d y : ℕ) (i : Instruction) where
       (λ t. no i (simp t at e))
 
   -- a dyadic of so many parcels
-  of-length : (f n : ℕ) (u : Wide) → wideLength u ≡ n → (eqb f 2 && eqb w n) ≡ true → dyadicIn u r p s x d y ≡ named i
-      → blockOf i ≡ block f r w p s x d y
-  of-length f n u l t e =
-      rw (eqb-true f 2 (and-left (eqb f 2) (eqb w n) t), eqb-true w n (and-right (eqb f 2) (eqb w n) t), sym l) (dyadic-words u e)
+  of-length : (k : ℕ) (u : Wide) → (eqb k 2 && lengthAgrees u w p) ≡ true → dyadicIn u r p s x d y ≡ named i → blockOf i (lengthOf i) ≡ block k r w p s x d y
+  of-length k u t e =
+      let l : w ≡ wideLength u + prefixLength (eqb p 1) = eqb-true w _ (and-right (eqb k 2) (lengthAgrees u w p) t) in
+      rw (eqb-true k 2 (and-left (eqb k 2) (lengthAgrees u w p) t), l) (dyadic-words u e)
 
-  form-words : (f : ℕ) → formIn f r w p s x d y ≡ named i → blockOf i ≡ block f r w p s x d y
-  unfolding formIn
-  form-words f e =
-      by-test (eqb f 1)
-      (λ t. rw (eqb-true f 1 t) (short-words (simp t at e)))
-      (λ t. by-test (eqb f 2 && eqb w 3)
-      (λ u. of-length f 3 Three refl u (simp (t, u) at e))
-      (λ u. by-test (eqb f 2 && eqb w 5)
-      (λ v. of-length f 5 Five refl v (simp (t, u, v) at e))
-      (λ v. by-test (eqb f 3)
-      (λ z. rw (eqb-true f 3 z) (monadic-words (simp (t, u, v, z) at e)))
+  kind-words : (k : ℕ) → kindIn k r w p s x d y ≡ named i → blockOf i (lengthOf i) ≡ block k r w p s x d y
+  unfolding kindIn
+  kind-words k e =
+      by-test (eqb k 1)
+      (λ t. rw (eqb-true k 1 t) (short-words (simp t at e)))
+      (λ t. by-test (eqb k 2 && lengthAgrees Three w p)
+      (λ u. of-length k Three u (simp (t, u) at e))
+      (λ u. by-test (eqb k 2 && lengthAgrees Five w p)
+      (λ v. of-length k Five v (simp (t, u, v) at e))
+      (λ v. by-test (eqb k 3)
+      (λ z. rw (eqb-true k 3 z) (monadic-words (simp (t, u, v, z) at e)))
       (λ z. no i (simp (t, u, v, z) at e)))))
 
 -- the eight words of a list, as a block
@@ -293,9 +303,9 @@ eight b h =
     ext-getD 0 (blockIn b) b (sym h)
     (λ k l. within (λ n. getD (blockIn b) n 0 ≡ getD b n 0) 0 8 ((((((((tt, refl), refl), refl), refl), refl), refl), refl), refl) k zero-le l)
 
-pub block-named : (b : List ℕ) (i : Instruction) → instructionIn b ≡ named i → blockOf i ≡ b
+pub block-named : (b : List ℕ) (i : Instruction) → instructionIn b ≡ named i → b ≡ blockOf i (lengthOf i)
 unfolding instructionIn
 block-named b i e =
     by-test (eqb (length b) 8)
-    (λ t. form-words _ _ _ _ _ _ _ i _ (simp t at e) ∙ eight b (eqb-true (length b) 8 t))
+    (λ t. sym (kind-words _ _ _ _ _ _ _ i _ (simp t at e) ∙ eight b (eqb-true (length b) 8 t)))
     (λ t. no i (simp t at e))

@@ -1,14 +1,15 @@
 -- An instruction as a block of eight words, for callers that have no enumerations:
---   0  form: 1 one parcel, 2 two operands, 3 one operand of 32 bits
+--   0  kind: 1 one parcel, 2 two operands, 3 one operand of 32 bits
 --   1  row, as the encodings lists number it: the parcel with its operand bits 0, the opcode, or the subcode
---   2  parcels of a dyadic without its prefix, 3 or 5
+--   2  length in parcels, the prefix counted: 1; 3 to 6; 3 or 4
 --   3  prefix: 1 if there is a CPU prefix
 --   4  source mode of a dyadic, or the mode of a monadic
 --   5  source value, or the register's number
 --   6  destination mode of a dyadic
 --   7  destination value, or the register's number
--- A word that a form has no use for is 0. The row of a block is the one that the decoder's tables have at its number. What is
--- not of this shape names no instruction: proofs/RoundTrip.antt shows that blocks and instructions are each other's.
+-- A word that a kind has no use for is 0. A dyadic's form is word 2 less word 3. The row of a block is the one that the decoder's
+-- tables have at its number. What is not of this shape, or has a length that is not its form's and its prefix's, names no
+-- instruction: proofs/RoundTrip.antt shows that blocks and instructions are each other's.
 -- Assumes nothing.
 use Prim.Native.Nat.{ℕ, _+_, _/_, _%_}
 use mathlib.Core.Bool.{Bool, cond, _&&_}
@@ -39,14 +40,15 @@ use Rattle.isa.specs.declared.Instruction.the-variants as instruction
 use Rattle.isa.specs.Tables.{shortOf, dyadicOf, monadicOf, generalOf, monadicModeOf}
 use Rattle.isa.specs.Decode.{shortEntry}
 use Rattle.isa.specs.Encodings.{shortListed, dyadicListed, monadicListed}
-use Rattle.isa.specs.Encode.{modeCode, operandRaw, wideLength, prefixLength}
+use Rattle.isa.specs.Lengths.{shortLength, wideLength, prefixLength}
+use Rattle.isa.specs.Encode.{modeCode, operandRaw}
 
 -- what a block holds
 pub data Named : Type 0 where
   named : Instruction → Named
   nothing : Named
 
--- ---- the block of an instruction
+-- ---- the block of an instruction with its length
 
 -- a register comes after the sixteen modes of Table 1-21, which keep their codes
 abbrev pub registerMode : ℕ
@@ -67,16 +69,16 @@ monadicModePlace FlowStackIndirect = 5
 monadicModePlace FlowRelative = 6
 monadicModePlace FlowAbsolute = 7
 
-abbrev pub blockOf : Instruction → List ℕ
-blockOf (instruction.Short i) = 1 ∷ shortListed (i .row) .base ∷ 0 ∷ 0 ∷ 0 ∷ i .source ∷ 0 ∷ i .destination ∷ []
-blockOf (instruction.Dyadic i) =
-    2 ∷ dyadicListed (i .row) .opcode ∷ wideLength (i .wide) ∷ prefixLength (i .prefix)
+abbrev pub blockOf : Instruction → ℕ → List ℕ
+blockOf (instruction.Short i) n = 1 ∷ shortListed (i .row) .base ∷ n ∷ 0 ∷ 0 ∷ i .source ∷ 0 ∷ i .destination ∷ []
+blockOf (instruction.Dyadic i) n =
+    2 ∷ dyadicListed (i .row) .opcode ∷ n ∷ prefixLength (i .prefix)
     ∷ operandMode (i .source) ∷ operandRaw (i .source)
     ∷ operandMode (i .destination) ∷ operandRaw (i .destination) ∷ []
-blockOf (instruction.Monadic i) =
-    3 ∷ monadicListed (i .row) .subcode ∷ 0 ∷ prefixLength (i .prefix) ∷ monadicModePlace (i .mode) ∷ i .value ∷ 0 ∷ 0 ∷ []
+blockOf (instruction.Monadic i) n =
+    3 ∷ monadicListed (i .row) .subcode ∷ n ∷ prefixLength (i .prefix) ∷ monadicModePlace (i .mode) ∷ i .value ∷ 0 ∷ 0 ∷ []
 
--- ---- the instruction in a block: row r, parcels w, prefix p, source mode s and value x, destination mode d and value y
+-- ---- the instruction in a block: row r, length w, prefix p, source mode s and value x, destination mode d and value y
 
 -- one parcel: the row that the tables have at r, if r has no operand bits
 abbrev pub shortNamed : ShortEntry → ℕ → ℕ → ℕ → Named
@@ -92,11 +94,15 @@ shortNamed short.Trap r x y = nothing
 shortNamed short.Unlisted r x y = nothing
 
 abbrev pub isShort : ℕ → ℕ → ℕ → ℕ → ℕ → Bool
-isShort r w p s d = ltb r 0x8000 && eqb w 0 && eqb p 0 && eqb s 0 && eqb d 0
+isShort r w p s d = ltb r 0x8000 && eqb w shortLength && eqb p 0 && eqb s 0 && eqb d 0
 
 unfoldable pub shortIn : ℕ → ℕ → ℕ → ℕ → ℕ → ℕ → ℕ → Named
 shortIn r w p s x d y =
     cond (isShort r w p s d) (shortNamed (shortEntry (shortOf (r / 1024 % 32)) r) r x y) nothing
+
+-- the length is the form's and the prefix's
+abbrev pub lengthAgrees : Wide → ℕ → ℕ → Bool
+lengthAgrees f w p = eqb w (wideLength f + prefixLength (eqb p 1))
 
 -- two operands: a mode by Table 1-21, whose numbers end below registerMode, so that no other entry is found
 abbrev pub modeAt : ModeEntry → Mode
@@ -132,20 +138,20 @@ monadicNamed monadic.Unimplemented p m x = nothing
 monadicNamed monadic.Unlisted p m x = nothing
 
 abbrev pub isMonadic : ℕ → ℕ → ℕ → ℕ → Bool
-isMonadic w p d y = eqb w 0 && ltb p 2 && eqb d 0 && eqb y 0
+isMonadic w p d y = lengthAgrees Three w p && ltb p 2 && eqb d 0 && eqb y 0
 
 unfoldable pub monadicIn : ℕ → ℕ → ℕ → ℕ → ℕ → ℕ → ℕ → Named
 monadicIn r w p m x d y = cond (isMonadic w p d y) (monadicNamed (monadicOf r) p (monadicModeIn m) x) nothing
 
-unfoldable pub formIn : ℕ → ℕ → ℕ → ℕ → ℕ → ℕ → ℕ → ℕ → Named
-formIn f r w p s x d y =
-    cond (eqb f 1) (shortIn r w p s x d y)
-    (cond (eqb f 2 && eqb w 3) (dyadicIn Three r p s x d y)
-    (cond (eqb f 2 && eqb w 5) (dyadicIn Five r p s x d y)
-    (cond (eqb f 3) (monadicIn r w p s x d y) nothing)))
+unfoldable pub kindIn : ℕ → ℕ → ℕ → ℕ → ℕ → ℕ → ℕ → ℕ → Named
+kindIn k r w p s x d y =
+    cond (eqb k 1) (shortIn r w p s x d y)
+    (cond (eqb k 2 && lengthAgrees Three w p) (dyadicIn Three r p s x d y)
+    (cond (eqb k 2 && lengthAgrees Five w p) (dyadicIn Five r p s x d y)
+    (cond (eqb k 3) (monadicIn r w p s x d y) nothing)))
 
 unfoldable pub instructionIn : List ℕ → Named
 instructionIn b =
     cond (eqb (length b) 8)
-    (formIn (getD b 0 0) (getD b 1 0) (getD b 2 0) (getD b 3 0) (getD b 4 0) (getD b 5 0) (getD b 6 0) (getD b 7 0))
+    (kindIn (getD b 0 0) (getD b 1 0) (getD b 2 0) (getD b 3 0) (getD b 4 0) (getD b 5 0) (getD b 6 0) (getD b 7 0))
     nothing

@@ -7,10 +7,10 @@ use encode_tables::rows::list_short;
 use isa::Instruction;
 use isa::MonadicMode;
 use isa::Operand;
-use isa::Wide;
+use isa::lengths::prefix_length;
 ghost use mathlib.Core.Path.{_≡_};
 ghost use lib.ListN.{length};
-ghost use Rattle.isa.specs.Encode.{operandRaw, wideLength, prefixLength};
+ghost use Rattle.isa.specs.Encode.{operandRaw};
 ghost use Rattle.hobbit_blocks.specs.Numbering.{operandMode, monadicModePlace, blockOf};
 
 // A register has the number after the sixteen modes.
@@ -32,21 +32,6 @@ fn operand_value(o: Operand) -> u32
     }
 }
 
-fn wide_word(w: Wide) -> u32
-    ensures { λ r. ⌜ r ≡ wideLength w ⌝ }
-{
-    match w {
-        Wide::Three => 3,
-        Wide::Five => 5,
-    }
-}
-
-fn prefix_word(prefix: bool) -> u32
-    ensures { λ r. ⌜ r ≡ prefixLength prefix ⌝ }
-{
-    if prefix { 1 } else { 0 }
-}
-
 // The place of a monadic's mode in the order of declaration.
 fn mode_place(mode: MonadicMode) -> u32
     ensures { λ r. ⌜ r ≡ monadicModePlace mode ⌝ }
@@ -63,26 +48,26 @@ fn mode_place(mode: MonadicMode) -> u32
     }
 }
 
-pub fn block_of(i: Instruction) -> [u32; 8]
-    ensures { λ r. ⌜ (r ≡ blockOf i) × (length r ≡ 8) ⌝ }
+// Of an instruction that is n parcels long.
+pub fn block_of(i: Instruction, n: u32) -> [u32; 8]
+    ensures { λ r. ⌜ (r ≡ blockOf i n) × (length r ≡ 8) ⌝ }
 {
     match i {
         Instruction::Short(o) => {
             let row = o.row;
             let listed = list_short(row);
-            [1, listed.base, 0, 0, 0, o.source, 0, o.destination]
+            [1, listed.base, n, 0, 0, o.source, 0, o.destination]
         }
         Instruction::Dyadic(o) => {
             let row = o.row;
-            let w = o.wide;
             let s = o.source;
             let d = o.destination;
             let listed = list_dyadic(row);
             [
                 2,
                 listed.opcode,
-                wide_word(w),
-                prefix_word(o.prefix),
+                n,
+                prefix_length(o.prefix),
                 operand_mode(s),
                 operand_value(s),
                 operand_mode(d),
@@ -96,8 +81,8 @@ pub fn block_of(i: Instruction) -> [u32; 8]
             [
                 3,
                 listed.subcode,
-                0,
-                prefix_word(o.prefix),
+                n,
+                prefix_length(o.prefix),
                 mode_place(mode),
                 o.value,
                 0,

@@ -19,12 +19,10 @@ const NO_CODE: u32 = 5;
 
 const CUT_TEXT: u32 = 6;
 
-// What is no instruction: 0x100, and an illegal one's exception or the vector's offset of the others.
-const ILLEGAL: u32 = 0x103;
+// What is no instruction: this, and an illegal one's exception or the offset of an unimplemented one's vector.
+const NO_INSTRUCTION: u32 = 0x100;
 
-const UNIMPLEMENTED: u32 = 0x10C;
-
-const TRAPPED: u32 = 0x108;
+const ILLEGAL: u32 = 0x3;
 
 // 0 and the instruction in the block; else a number that says why not, and the block as it was.
 pub fn decode_into(parcels: &[u16], block: &mut [u32; 8]) -> u32
@@ -32,14 +30,13 @@ pub fn decode_into(parcels: &[u16], block: &mut [u32; 8]) -> u32
 {
     let a = decode(parcels);
     match a {
-        Decoded::Is(i) => {
-            *block = block_of(i);
+        Decoded::Is(i, n) => {
+            *block = block_of(i, n);
             0
         }
-        Decoded::Illegal => ILLEGAL,
-        Decoded::Unimplemented => UNIMPLEMENTED,
-        Decoded::Trap => TRAPPED,
-        Decoded::Refused(_) => CUT_TEXT,
+        Decoded::Illegal => NO_INSTRUCTION + ILLEGAL,
+        Decoded::Unimplemented(v) => NO_INSTRUCTION + v,
+        Decoded::Truncated => CUT_TEXT,
     }
 }
 
@@ -54,6 +51,6 @@ pub fn encode_from(block: &[u32; 8], length: u32, parcels: &mut [u16; 6]) -> u32
             *parcels = [t.p0, t.p1, t.p2, t.p3, t.p4, t.p5];
             0
         }
-        Encoded::Refused(_) => NO_CODE,
+        Encoded::NoCode => NO_CODE,
     }
 }

@@ -1,6 +1,5 @@
-// The code of the instruction in a block, at a length n in parcels. Words after the form: row r, parcels w, prefix p, source
+// The code of the instruction in a block, at a length n in parcels. Words after the kind: row r, length w, prefix p, source
 // mode s and value x, destination mode d and value y.
-use crate::NO_CODE;
 use crate::REGISTER_MODE;
 use decode::short::find_entry;
 use decode_tables::modes::find_general;
@@ -25,11 +24,14 @@ use isa::ShortEntry;
 use isa::ShortInstruction;
 use isa::ShortRow;
 use isa::Wide;
+use isa::lengths::SHORT_LENGTH;
+use isa::lengths::prefix_length;
+use isa::lengths::wide_length;
 use word::fields::field;
 ghost use mathlib.Core.Path.{_≡_};
 ghost use Rattle.isa.specs.declared.FieldMode.{FieldMode};
 ghost use Rattle.isa.specs.declared.ShortEntry.the-variants as short;
-ghost use Rattle.hobbit_blocks.specs.Numbering.{shortNamed, shortIn, operandIn, dyadicIn, monadicModeIn, monadicIn, instructionIn};
+ghost use Rattle.hobbit_blocks.specs.Numbering.{shortNamed, shortIn, lengthAgrees, operandIn, dyadicIn, monadicModeIn, monadicIn, instructionIn};
 ghost use Rattle.hobbit_blocks.specs.Calls.{codeOf};
 
 // The row q with operands x and y, which r names if it has no operand bits.
@@ -38,7 +40,7 @@ fn row_code(q: ShortRow, r: u32, x: u32, y: u32, n: u32) -> Encoded
 {
     let listed = list_short(q);
     if listed.base != r {
-        return Encoded::Refused(NO_CODE);
+        return Encoded::NoCode;
     }
     encode(
         Instruction::Short(ShortInstruction {
@@ -53,19 +55,26 @@ fn row_code(q: ShortRow, r: u32, x: u32, y: u32, n: u32) -> Encoded
 fn short_code(r: u32, w: u32, p: u32, s: u32, x: u32, d: u32, y: u32, n: u32) -> Encoded
     ensures { λ c. ⌜ c ≡ codeOf (shortIn r w p s x d y) n ⌝ }
 {
-    if !((r < 0x8000) & (w == 0) & (p == 0) & (s == 0) & (d == 0)) {
-        return Encoded::Refused(NO_CODE);
+    if !((r < 0x8000) & (w == SHORT_LENGTH) & (p == 0) & (s == 0) & (d == 0)) {
+        return Encoded::NoCode;
     }
     let e = find_entry(find_short(field(r, 10, 5)), r as u16);
     match e {
         ShortEntry::Row(q, _, _) => row_code(q, r, x, y, n),
-        ShortEntry::Stack => Encoded::Refused(NO_CODE),
-        ShortEntry::Niladic => Encoded::Refused(NO_CODE),
-        ShortEntry::Prefix => Encoded::Refused(NO_CODE),
-        ShortEntry::Unimplemented => Encoded::Refused(NO_CODE),
-        ShortEntry::Trap => Encoded::Refused(NO_CODE),
-        ShortEntry::Unlisted => Encoded::Refused(NO_CODE),
+        ShortEntry::Stack => Encoded::NoCode,
+        ShortEntry::Niladic => Encoded::NoCode,
+        ShortEntry::Prefix => Encoded::NoCode,
+        ShortEntry::Unimplemented => Encoded::NoCode,
+        ShortEntry::Trap => Encoded::NoCode,
+        ShortEntry::Unlisted => Encoded::NoCode,
     }
+}
+
+// The length is the form's and the prefix's.
+fn length_agrees(f: Wide, w: u32, p: u32) -> bool
+    ensures { λ r. ⌜ r ≡ lengthAgrees f w p ⌝ }
+{
+    w == wide_length(f) + prefix_length(p == 1)
 }
 
 // Whoever asks has tested the mode's number: the last two arms are never taken.
@@ -99,11 +108,11 @@ fn dyadic_code(w: Wide, r: u32, p: u32, s: u32, x: u32, d: u32, y: u32, n: u32) 
                 }),
                 n,
             ),
-            DyadicEntry::Unimplemented => Encoded::Refused(NO_CODE),
-            DyadicEntry::Unlisted => Encoded::Refused(NO_CODE),
+            DyadicEntry::Unimplemented => Encoded::NoCode,
+            DyadicEntry::Unlisted => Encoded::NoCode,
         }
     } else {
-        Encoded::Refused(NO_CODE)
+        Encoded::NoCode
     }
 }
 
@@ -123,7 +132,7 @@ fn monadic_mode_in(k: u32) -> MonadicModeEntry
 fn monadic_code(r: u32, w: u32, p: u32, s: u32, x: u32, d: u32, y: u32, n: u32) -> Encoded
     ensures { λ c. ⌜ c ≡ codeOf (monadicIn r w p s x d y) n ⌝ }
 {
-    if (w == 0) & (p < 2) & (d == 0) & (y == 0) {
+    if length_agrees(Wide::Three, w, p) & (p < 2) & (d == 0) & (y == 0) {
         let mode = monadic_mode_in(s);
         let e = find_monadic(r);
         match e {
@@ -137,13 +146,13 @@ fn monadic_code(r: u32, w: u32, p: u32, s: u32, x: u32, d: u32, y: u32, n: u32) 
                     }),
                     n,
                 ),
-                MonadicModeEntry::Unlisted => Encoded::Refused(NO_CODE),
+                MonadicModeEntry::Unlisted => Encoded::NoCode,
             },
-            MonadicEntry::Unimplemented => Encoded::Refused(NO_CODE),
-            MonadicEntry::Unlisted => Encoded::Refused(NO_CODE),
+            MonadicEntry::Unimplemented => Encoded::NoCode,
+            MonadicEntry::Unlisted => Encoded::NoCode,
         }
     } else {
-        Encoded::Refused(NO_CODE)
+        Encoded::NoCode
     }
 }
 
@@ -151,7 +160,7 @@ fn monadic_code(r: u32, w: u32, p: u32, s: u32, x: u32, d: u32, y: u32, n: u32) 
 pub fn encode_block(b: [u32; 8], n: u32) -> Encoded
     ensures { λ c. ⌜ c ≡ codeOf (instructionIn b) n ⌝ }
 {
-    let form = b[0];
+    let kind = b[0];
     let r = b[1];
     let w = b[2];
     let p = b[3];
@@ -159,17 +168,17 @@ pub fn encode_block(b: [u32; 8], n: u32) -> Encoded
     let x = b[5];
     let d = b[6];
     let y = b[7];
-    if form == 1 {
+    if kind == 1 {
         return short_code(r, w, p, s, x, d, y, n);
     }
-    if (form == 2) & (w == 3) {
+    if (kind == 2) & length_agrees(Wide::Three, w, p) {
         return dyadic_code(Wide::Three, r, p, s, x, d, y, n);
     }
-    if (form == 2) & (w == 5) {
+    if (kind == 2) & length_agrees(Wide::Five, w, p) {
         return dyadic_code(Wide::Five, r, p, s, x, d, y, n);
     }
-    if form == 3 {
+    if kind == 3 {
         return monadic_code(r, w, p, s, x, d, y, n);
     }
-    Encoded::Refused(NO_CODE)
+    Encoded::NoCode
 }

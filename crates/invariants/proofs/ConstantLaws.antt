@@ -32,8 +32,8 @@ use Rattle.isa.specs.declared.MonadicEntry.{MonadicEntry}
 use Rattle.isa.specs.declared.MonadicEntry.the-variants as single
 use Rattle.isa.specs.declared.Text.{Text}
 use Rattle.isa.specs.declared.Decoded.{Decoded}
-use Rattle.isa.specs.declared.Decoded.the-variants.{Is, Illegal, Unimplemented, Trap, Refused}
-use Rattle.isa.specs.Refusals.{truncatedText}
+use Rattle.isa.specs.declared.Decoded.the-variants.{Is, Illegal, Unimplemented, Truncated}
+use Rattle.isa.specs.Answers.{unimplementedVector}
 use Rattle.isa.specs.Fields.{sourceField, fieldValue}
 use Rattle.isa.specs.Tables.{shortOf, dyadicOf, monadicOf, monadicModeOf}
 use Rattle.isa.specs.Legal.{legalOf, monadicLegalOf}
@@ -45,11 +45,10 @@ use Rattle.invariants.proofs.OperandLaws.{AddressFits, OperandFits}
 use Rattle.invariants.proofs.ExecuteLaws.{NormalFits}
 
 abbrev pub AnswerFits : Decoded → Type 0
-AnswerFits (Is i) = NormalFits (normal i)
+AnswerFits (Is i n) = NormalFits (normal i)
 AnswerFits Illegal = Unit
-AnswerFits Unimplemented = Unit
-AnswerFits Trap = Unit
-AnswerFits (Refused n) = Unit
+AnswerFits (Unimplemented v) = Unit
+AnswerFits Truncated = Unit
 
 -- ---- one parcel
 
@@ -158,7 +157,7 @@ found-fits w mode.Unlisted x h = tt
 
 dyadic-answer : (e : DyadicEntry) (w : Wide) (pre : Bool) (s d : Operand) → OperandFits w s → OperandFits w d → AnswerFits (dyadicAnswer e w pre s d)
 dyadic-answer (wide.Row r u) w pre s d f g = either AnswerFits (legalOf u s d) _ Illegal (f, g) tt
-dyadic-answer wide.Unimplemented w pre s d f g = either AnswerFits (legalOf OneRegister s d) Unimplemented Illegal tt tt
+dyadic-answer wide.Unimplemented w pre s d f g = either AnswerFits (legalOf OneRegister s d) (Unimplemented unimplementedVector) Illegal tt tt
 dyadic-answer wide.Unlisted w pre s d f g = tt
 
 both-answer : (e : DyadicEntry) (w : Wide) (pre : Bool) (s d : OperandFound) → FoundFits w s → FoundFits w d → AnswerFits (bothFound e w pre s d)
@@ -182,7 +181,7 @@ monadic-found r u pre place.Unlisted v h = tt
 
 monadic-answer : (e : MonadicEntry) (pre : Bool) (n v : ℕ) → v < 2 ^ 32 → AnswerFits (monadicAnswer e pre n v)
 monadic-answer (single.Row r u) pre n v h = monadic-found r u pre (monadicModeOf u n) v h
-monadic-answer single.Unimplemented pre n v h = either AnswerFits (ltb n 0xC) Illegal Unimplemented tt tt
+monadic-answer single.Unimplemented pre n v h = either AnswerFits (ltb n 0xC) Illegal (Unimplemented unimplementedVector) tt tt
 monadic-answer single.Unlisted pre n v h = tt
 
 -- ---- the length
@@ -199,16 +198,16 @@ three pre p a b f g =
 wide-fits : (pre : Bool) (n p a b c d : ℕ) → a < 2 ^ 16 → b < 2 ^ 16 → c < 2 ^ 16 → d < 2 ^ 16 → AnswerFits (decodeWide pre n p a b c d)
 unfolding decodeWide
 wide-fits pre n p a b c d fa fb fc fd =
-    either AnswerFits (ltb p 0xC000) (cond (ltb n 2) (Refused truncatedText) (decodeThree pre p a b))
-    (cond (ltb n 4) (Refused truncatedText) (decodeDyadic Five pre p (joined a b) (joined c d)))
-    (either AnswerFits (ltb n 2) (Refused truncatedText) (decodeThree pre p a b) tt (three pre p a b fa fb))
-    (either AnswerFits (ltb n 4) (Refused truncatedText) (decodeDyadic Five pre p (joined a b) (joined c d)) tt
+    either AnswerFits (ltb p 0xC000) (cond (ltb n 2) Truncated (decodeThree pre p a b))
+    (cond (ltb n 4) Truncated (decodeDyadic Five pre p (joined a b) (joined c d)))
+    (either AnswerFits (ltb n 2) Truncated (decodeThree pre p a b) tt (three pre p a b fa fb))
+    (either AnswerFits (ltb n 4) Truncated (decodeDyadic Five pre p (joined a b) (joined c d)) tt
     (dyadic-fits Five pre p (joined a b) (joined c d) (joined-value a b fa fb) (joined-value c d fc fd)))
 
 prefixed-fits : (t : Text) → TextFits t → AnswerFits (decodePrefixed t)
 unfolding decodePrefixed
 prefixed-fits t f =
-    either AnswerFits (ltb (t .count) 2) (Refused truncatedText) (cond (ltb (t .p1) 0x8000) Illegal after) tt
+    either AnswerFits (ltb (t .count) 2) Truncated (cond (ltb (t .p1) 0x8000) Illegal after) tt
     (either AnswerFits (ltb (t .p1) 0x8000) Illegal after tt (wide-fits true (t .count - 2) (t .p1) (t .p2) (t .p3) (t .p4) (t .p5) (f .p2) (f .p3) (f .p4) (f .p5)))
   where
     after : Decoded
@@ -224,5 +223,5 @@ bare-fits t f =
 pub decode-fits : (t : Text) → TextFits t → AnswerFits (decodeOf t)
 unfolding decodeOf
 decode-fits t f =
-    either AnswerFits (ltb (t .count) 1) (Refused truncatedText) (cond (eqb (t .p0) cpuPrefix) (decodePrefixed t) (decodeBare t)) tt
+    either AnswerFits (ltb (t .count) 1) Truncated (cond (eqb (t .p0) cpuPrefix) (decodePrefixed t) (decodeBare t)) tt
     (either AnswerFits (eqb (t .p0) cpuPrefix) (decodePrefixed t) (decodeBare t) (prefixed-fits t f) (bare-fits t f))

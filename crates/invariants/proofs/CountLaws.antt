@@ -10,7 +10,7 @@ use Rattle.invariants.proofs.RuleLaws.{Rules, AnswersAllowed}
 use Rattle.invariants.proofs.StepLaws.{SteppedHolds, Leaves, step-part, confined-part}
 
 -- nothing but the count
-abbrev anything-goes : Rules
+abbrev pub anything-goes : Rules
 anything-goes =
     record {
       Asks = λ q. Unit;

@@ -6,7 +6,6 @@ use mathlib.Core.Bool.{true, false, not}
 use native.Mathlib.Omega.{arith}
 use Rattle.isa.specs.declared.MonadicMode.{MonadicMode}
 use Rattle.isa.specs.declared.Instruction.{Instruction}
-use Rattle.isa.specs.Encode.{lengthOf}
 use Rattle.machine.specs.Status.{Cpu}
 use Rattle.exec_spec.specs.declared.Monadic.{Monadic}
 use Rattle.exec_spec.specs.declared.Monadic.the-variants as monadic
@@ -47,23 +46,23 @@ module _ (k : Rules) where
   monadic-part c monadic.Flush m v n h f g = gives (advanced-holds k c n h)
   monadic-part c monadic.Popn m v n h f g = gives (advanced-holds k _ n (released-holds k c v h))
 
-  niladic-part : (c : Cpu) (o : Niladic) → k .Holds c → Part k (k .Holds) 69 (executeNiladic c o)
+  niladic-part : (c : Cpu) (o : Niladic) (n : ℕ) → k .Holds c → Part k (k .Holds) 69 (executeNiladic c o n)
   unfolding executeNiladic
-  niladic-part c niladic.Kret h = more 69 (omega arith) (privileged-part k c 2 (kret c) h (λ free. kret-part k free c h))
-  niladic-part c niladic.Cret h = privileged-part k c 69 (cret c) h (λ free. cret-part k free c h)
-  niladic-part c niladic.Nop h = gives (advanced-holds k c 1 h)
-  niladic-part c niladic.Testv h = gives (advanced-holds k _ 1 (test-holds k c overflowBit tt (omega arith) h))
-  niladic-part c niladic.Testc h = gives (advanced-holds k _ 1 (test-holds k c carryBit tt (omega arith) h))
-  niladic-part c niladic.Clre h = gives (advanced-holds k _ 1 (guard-holds k c false h))
+  niladic-part c niladic.Kret n h = more 69 (omega arith) (privileged-part k c 2 (kret c) h (λ free. kret-part k free c h))
+  niladic-part c niladic.Cret n h = privileged-part k c 69 (cret c) h (λ free. cret-part k free c h)
+  niladic-part c niladic.Nop n h = gives (advanced-holds k c n h)
+  niladic-part c niladic.Testv n h = gives (advanced-holds k _ n (test-holds k c overflowBit tt (omega arith) h))
+  niladic-part c niladic.Testc n h = gives (advanced-holds k _ n (test-holds k c carryBit tt (omega arith) h))
+  niladic-part c niladic.Clre n h = gives (advanced-holds k _ n (guard-holds k c false h))
 
   normal-part : (c : Cpu) (n : ℕ) (i : Normal) → k .Holds c → NormalFits i → (isKcall i ≡ true → k .Free) → Part k (k .Holds) 69 (executeNormal c n i)
   unfolding executeNormal
   normal-part c n (twoOperands w t s d) h f g =
       more 69 (omega arith) (bind (dyadic-part k c w t s d h (f .0) (f .1)) λ e y. gives {n = 0} (advanced-holds k e n y))
   normal-part c n (oneOperand o m v) h f g = monadic-part c o m v n h (λ _. f) g
-  normal-part c n (noOperand o) h f g = niladic-part c o h
+  normal-part c n (noOperand o) h f g = niladic-part c o n h
 
-  pub execute-part : (c : Cpu) (i : Instruction) → k .Holds c → NormalFits (normal i) → (isKcall (normal i) ≡ true → k .Free)
-      → Part k (k .Holds) 69 (execute c i)
+  pub execute-part : (c : Cpu) (i : Instruction) (n : ℕ) → k .Holds c → NormalFits (normal i) → (isKcall (normal i) ≡ true → k .Free)
+      → Part k (k .Holds) 69 (execute c i n)
   unfolding execute
-  execute-part c i h f g = normal-part c (lengthOf i) (normal i) h f g
+  execute-part c i n h f g = normal-part c n (normal i) h f g

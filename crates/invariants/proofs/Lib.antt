@@ -17,3 +17,4 @@ pub mod LevelLaws
 pub mod ShapeLaws
 pub mod WordLaws
 pub mod MemoryLaws
+pub mod FetchedText

@@ -8,7 +8,7 @@ use lib.Dec.{T, eqb, lit<}
 use Rattle.word.specs.Fields.{bitOf}
 use Rattle.word.specs.Sums.{plusOf}
 use Rattle.isa.specs.declared.Decoded.{Decoded}
-use Rattle.isa.specs.declared.Decoded.the-variants.{Is, Illegal, Unimplemented, Trap, Refused}
+use Rattle.isa.specs.declared.Decoded.the-variants.{Is, Illegal, Unimplemented, Truncated}
 use Rattle.isa.specs.Decode.{decodeOf}
 use Rattle.access_spec.specs.Program.{Program, ret, after}
 use Rattle.machine.specs.Registers.{config, psw, traceDue, timer1Due, timer2Due, nmiTaken}
@@ -33,7 +33,7 @@ use Rattle.invariants.proofs.ConstantLaws.{AnswerFits, decode-fits}
 -- ---- results
 
 abbrev DispatchFits : Dispatch → Type 0
-DispatchFits (toInstruction i) = NormalFits (normal i)
+DispatchFits (toInstruction i n) = NormalFits (normal i)
 DispatchFits (toVector v) = Unit
 
 abbrev ActedHolds : Rules → Acted → Type 0
@@ -99,15 +99,14 @@ module _ (k : Rules) where
   fetch-part c h = bind {b = 0} (fetch-text k c h) λ t f. record { within = go (decodeOf t) (decode-fits t f) }
     where
       go : (a : Decoded) → AnswerFits a → Within (k .Asks) (AnswersAllowed k) (ResultsAllowed k DispatchFits) 0 (ret (dispatch c a))
-      go (Is i) f = f
+      go (Is i n) f = f
       go Illegal f = h
-      go Unimplemented f = tt
-      go Trap f = tt
-      go (Refused n) f = h
+      go (Unimplemented v) f = tt
+      go Truncated f = h
 
   act-part : (c : Cpu) (m : Dispatch) → k .Free → k .Holds c → DispatchFits m → Part k (ActedHolds k) 69 (act c m)
   unfolding act
-  act-part c (toInstruction i) free h f = bind (execute-part k c i h f (λ _. free)) λ d g. gives {n = 0} g
+  act-part c (toInstruction i n) free h f = bind (execute-part k c i n h f (λ _. free)) λ d g. gives {n = 0} g
   act-part c (toVector v) free h f = more 69 (omega arith) (bind (unimplemented-part k free c v h) λ d g. gives {n = 0} g)
 
   attempt-part : (c : Cpu) → k .Free → k .Holds c → Part k (ActedHolds k) 75 (attempt c)
@@ -116,8 +115,8 @@ module _ (k : Rules) where
 
   try-part : (c : Cpu) (m : Dispatch) → k .Holds c → DispatchFits m → Part k (ConfinedHolds k) 69 (actConfined c m)
   unfolding actConfined
-  try-part c (toInstruction i) h f =
-      either (isKcall (normal i)) (λ _. gives tt) (λ e. bind (execute-part k c i h f (λ g. absurd (apart e g))) λ d g. gives {n = 0} g)
+  try-part c (toInstruction i n) h f =
+      either (isKcall (normal i)) (λ _. gives tt) (λ e. bind (execute-part k c i n h f (λ g. absurd (apart e g))) λ d g. gives {n = 0} g)
     where
       apart : isKcall (normal i) ≡ false → isKcall (normal i) ≡ true → ⊥
       apart e g = false≢true (sym e ∙ g)

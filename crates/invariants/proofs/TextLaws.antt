@@ -1,23 +1,25 @@
--- The text of an instruction: up to six accesses, and parcels of sixteen bits.
+-- The text of an instruction: up to six accesses, and as many parcels of sixteen bits as are called for.
 -- Assumes nothing.
 use Prim.Native.Nat.{ℕ, zero, suc, _^_, _<_, _≤_}
-use mathlib.Core.Path.{refl}
+use mathlib.Core.Path.{_≡_, refl}
 use mathlib.Core.Bool.{Bool, true, false, cond}
 use mathlib.Core.List.{List, [], _∷_}
 use native.Mathlib.Nat.{mod-lt}
 use native.Mathlib.Omega.{arith}
 use lib.Dec.{eqb, ltb, lit<}
-use lib.ListN.{getD}
+use lib.ListN.{length, getD}
 use lib.Pow.{pow-pos}
 use Rattle.word.specs.Sums.{plusOf}
 use Rattle.isa.specs.declared.Text.{Text}
 use Rattle.isa.specs.Decode.{cpuPrefix, textOf}
+use Rattle.isa.specs.Carried.{calledFor}
 use Rattle.memory.specs.Answers.{Answer, good, raised}
 use Rattle.access_spec.specs.Access.{fetch}
 use Rattle.machine.specs.Registers.{pc}
 use Rattle.machine.specs.Status.{Cpu, reg, regime}
 use Rattle.datapath.specs.Parts.{parcelRequest, parcelReplied}
-use Rattle.datapath.specs.Text.{fetchParcel, fetchParcels, following, fetchAfter, fetchPrefixed, fetchText}
+use Rattle.isa.specs.Lengths.{following}
+use Rattle.datapath.specs.Text.{fetchParcel, fetchParcels, fetchAfter, fetchPrefixed, fetchText}
 use Rattle.invariants.proofs.RuleLaws.{Rules, AnswersAllowed, ResultsAllowed, Part, bind, more, gives, either}
 
 -- ---- parcels: sixteen bits
@@ -27,6 +29,7 @@ Parcels [] = Unit
 Parcels (p ∷ ps) = (p < 2 ^ 16) × Parcels ps
 
 pub record TextFits (t : Text) : Type 0 where
+  pub called : t .count ≡ calledFor t
   pub p0 : t .p0 < 2 ^ 16
   pub p1 : t .p1 < 2 ^ 16
   pub p2 : t .p2 < 2 ^ 16
@@ -39,9 +42,10 @@ parcel-at [] i h = lit< tt
 parcel-at (p ∷ ps) zero h = h .0
 parcel-at (p ∷ ps) (suc i) h = parcel-at ps i (h .1)
 
-text-fits : (ps : List ℕ) → Parcels ps → TextFits (textOf ps)
-text-fits ps h =
+text-fits : (ps : List ℕ) → Parcels ps → length ps ≡ calledFor (textOf ps) → TextFits (textOf ps)
+text-fits ps h e =
     record {
+      called = e;
       p0 = parcel-at ps 0 h;
       p1 = parcel-at ps 1 h;
       p2 = parcel-at ps 2 h;
@@ -59,13 +63,13 @@ module _ (k : Rules) where
       go (good x) d = mod-lt x (pow-pos 16)
       go (raised e) d = h
 
-  fetch-parcels : (c : Cpu) (a n : ℕ) → k .Holds c → Part k Parcels n (fetchParcels c a n)
+  fetch-parcels : (c : Cpu) (a n : ℕ) → k .Holds c → Part k (λ ps. Parcels ps × (length ps ≡ n)) n (fetchParcels c a n)
   unfolding fetchParcels
-  fetch-parcels c a zero h = gives tt
+  fetch-parcels c a zero h = gives (tt, refl)
   fetch-parcels c a (suc n) h = more (suc n) (omega arith)
-      (bind (fetch-parcel c a h) λ p g. bind (fetch-parcels c (plusOf a 2) n h) λ ps gs. gives {n = 0} (g, gs))
+      (bind (fetch-parcel c a h) λ p g. bind (fetch-parcels c (plusOf a 2) n h) λ ps gs. gives {n = 0} ((g, gs .0), omega (arith, gs .1)))
 
-  fetch-following : (c : Cpu) (a p : ℕ) → k .Holds c → Part k Parcels 4 (fetchParcels c a (following p))
+  fetch-following : (c : Cpu) (a p : ℕ) → k .Holds c → Part k (λ ps. Parcels ps × (length ps ≡ following p)) 4 (fetchParcels c a (following p))
   fetch-following c a p h = more 4 (go (ltb p 0x8000) (ltb p 0xC000)) (fetch-parcels c a (following p) h)
     where
       go : (x y : Bool) → cond x 0 (cond y 2 4) ≤ 4
@@ -80,5 +84,6 @@ module _ (k : Rules) where
       either (eqb p cpuPrefix)
       (λ _. bind (fetch-parcel c (plusOf (reg c pc) 2) h) λ o m.
       bind (fetch-following c (plusOf (reg c pc) 4) o h) λ ps gs.
-      gives {n = 0} (text-fits (cpuPrefix ∷ o ∷ ps) (lit< tt, (m, gs))))
-      (λ _. more 5 (omega arith) (bind (fetch-following c (plusOf (reg c pc) 2) p h) λ ps gs. gives {n = 0} (text-fits (p ∷ ps) (g, gs))))
+      gives {n = 0} (text-fits (cpuPrefix ∷ o ∷ ps) (lit< tt, (m, gs .0)) (omega (arith, gs .1))))
+      (λ e. more 5 (omega arith) (bind (fetch-following c (plusOf (reg c pc) 2) p h) λ ps gs.
+      gives {n = 0} (text-fits (p ∷ ps) (g, gs .0) (rw e (omega (arith, gs .1))))))

@@ -31,9 +31,10 @@ use Rattle.isa.specs.declared.MonadicEntry.the-variants as single
 use Rattle.isa.specs.declared.Instruction.the-variants as instruction
 use Rattle.isa.specs.declared.Text.{Text}
 use Rattle.isa.specs.declared.Decoded.{Decoded}
-use Rattle.isa.specs.declared.Decoded.the-variants.{Is, Illegal, Unimplemented, Trap, Refused}
-use Rattle.isa.specs.Refusals.{truncatedText}
+use Rattle.isa.specs.declared.Decoded.the-variants.{Illegal, Unimplemented, Truncated}
 use Rattle.word.specs.Widths.{signExtendOf}
+use Rattle.isa.specs.Lengths.{wideLength}
+use Rattle.isa.specs.Answers.{unimplementedVector, niladicTrapVector, withLength}
 use Rattle.isa.specs.Fields.{sourceField, destinationField, fieldValue}
 use Rattle.isa.specs.Tables.{shortOf, stackOf, niladicOf, dyadicOf, monadicOf, generalOf, prefixedOf, monadicModeOf}
 use Rattle.isa.specs.Legal.{legalOf, monadicLegalOf}
@@ -56,12 +57,12 @@ shortInstruction r s d p =
 
 -- a prefix is no instruction by itself
 abbrev pub shortAnswer : ShortEntry → ℕ → Decoded
-shortAnswer (short.Row r s d) p = Is (instruction.Short (shortInstruction r s d p))
+shortAnswer (short.Row r s d) p = withLength (instruction.Short (shortInstruction r s d p))
 shortAnswer short.Stack p = Illegal
 shortAnswer short.Niladic p = Illegal
 shortAnswer short.Prefix p = Illegal
-shortAnswer short.Unimplemented p = Unimplemented
-shortAnswer short.Trap p = Trap
+shortAnswer short.Unimplemented p = Unimplemented unimplementedVector
+shortAnswer short.Trap p = Unimplemented niladicTrapVector
 shortAnswer short.Unlisted p = Illegal
 
 unfoldable pub decodeShort : ℕ → Decoded
@@ -107,9 +108,9 @@ modeEntry false k = generalOf k
 abbrev pub dyadicAnswer : DyadicEntry → Wide → Bool → Operand → Operand → Decoded
 dyadicAnswer (wide.Row r u) w pre s d =
     cond (legalOf u s d)
-    (Is (instruction.Dyadic (record { row = r; wide = w; prefix = pre; source = s; destination = d })))
+    (withLength (instruction.Dyadic (record { row = r; wide = w; prefix = pre; source = s; destination = d })))
     Illegal
-dyadicAnswer wide.Unimplemented w pre s d = cond (legalOf OneRegister s d) Unimplemented Illegal
+dyadicAnswer wide.Unimplemented w pre s d = cond (legalOf OneRegister s d) (Unimplemented unimplementedVector) Illegal
 dyadicAnswer wide.Unlisted w pre s d = Illegal
 
 abbrev pub bothFound : DyadicEntry → Wide → Bool → OperandFound → OperandFound → Decoded
@@ -130,20 +131,20 @@ decodeDyadic w pre p x y =
 abbrev pub monadicFound : MonadicRow → MonadicRule → Bool → MonadicModeEntry → ℕ → Decoded
 monadicFound r u pre (place.Is m) v =
     cond (monadicLegalOf u m v)
-    (Is (instruction.Monadic (record { row = r; prefix = pre; mode = m; value = v })))
+    (withLength (instruction.Monadic (record { row = r; prefix = pre; mode = m; value = v })))
     Illegal
 monadicFound r u pre place.Unlisted v = Illegal
 
 -- 1.11.4: "An unimplemented monadic instruction is illegal if it has a nonword addressing mode (<0xC)"
 abbrev pub monadicAnswer : MonadicEntry → Bool → ℕ → ℕ → Decoded
 monadicAnswer (single.Row r u) pre k v = monadicFound r u pre (monadicModeOf u k) v
-monadicAnswer single.Unimplemented pre k v = cond (ltb k 0xC) Illegal Unimplemented
+monadicAnswer single.Unimplemented pre k v = cond (ltb k 0xC) Illegal (Unimplemented unimplementedVector)
 monadicAnswer single.Unlisted pre k v = Illegal
 
 unfoldable pub decodeMonadic : Bool → ℕ → ℕ → Decoded
 decodeMonadic pre p v = monadicAnswer (monadicOf (p % 16)) pre (p / 16 % 16) v
 
--- ---- the length, by the first parcel or the one after a prefix
+-- ---- the form, by the first parcel or the one after a prefix
 
 -- a word of two parcels, the high one first
 abbrev pub joined : ℕ → ℕ → ℕ
@@ -156,8 +157,8 @@ decodeThree pre p a b = cond (eqb (p / 256 % 64) 0) (decodeMonadic pre p (joined
 unfoldable pub decodeWide : Bool → ℕ → ℕ → ℕ → ℕ → ℕ → ℕ → Decoded
 decodeWide pre n p a b c d =
     cond (ltb p 0xC000)
-    (cond (ltb n 2) (Refused truncatedText) (decodeThree pre p a b))
-    (cond (ltb n 4) (Refused truncatedText) (decodeDyadic Five pre p (joined a b) (joined c d)))
+    (cond (ltb n (wideLength Three - 1)) Truncated (decodeThree pre p a b))
+    (cond (ltb n (wideLength Five - 1)) Truncated (decodeDyadic Five pre p (joined a b) (joined c d)))
 
 -- the CPU prefix: one parcel, opcode 0xB, subcode 0
 abbrev pub cpuPrefix : ℕ
@@ -166,7 +167,7 @@ cpuPrefix = 0x2C00
 -- document 01: "a CPU prefix before a one-parcel instruction, or before another prefix, is illegal"
 unfoldable pub decodePrefixed : Text → Decoded
 decodePrefixed t =
-    cond (ltb (t .count) 2) (Refused truncatedText)
+    cond (ltb (t .count) 2) Truncated
     (cond (ltb (t .p1) 0x8000) Illegal (decodeWide true (t .count - 2) (t .p1) (t .p2) (t .p3) (t .p4) (t .p5)))
 
 unfoldable pub decodeBare : Text → Decoded
@@ -176,7 +177,7 @@ decodeBare t =
 
 unfoldable pub decodeOf : Text → Decoded
 decodeOf t =
-    cond (ltb (t .count) 1) (Refused truncatedText)
+    cond (ltb (t .count) 1) Truncated
     (cond (eqb (t .p0) cpuPrefix) (decodePrefixed t) (decodeBare t))
 
 -- the parcels of a list: its length, and the first six, as far as they go

@@ -24,8 +24,8 @@ use Rattle.isa.specs.declared.Instruction.{Instruction}
 use Rattle.isa.specs.declared.Instruction.the-variants as instruction
 use Rattle.isa.specs.declared.Text.{Text}
 use Rattle.isa.specs.declared.Encoded.{Encoded}
-use Rattle.isa.specs.declared.Encoded.the-variants.{Parcels, Refused}
-use Rattle.isa.specs.Refusals.{noEncoding}
+use Rattle.isa.specs.declared.Encoded.the-variants.{Parcels, NoCode}
+use Rattle.isa.specs.Lengths.{lengthOf}
 use Rattle.word.specs.Widths.{signExtendOf}
 use Rattle.isa.specs.Fields.{fieldValue}
 use Rattle.isa.specs.Legal.{isRegister}
@@ -33,7 +33,7 @@ use Rattle.isa.specs.Encodings.{shortListed, dyadicListed, monadicListed
 
 abbrev pub coded : Bool → Text → Encoded
 coded true t = Parcels t
-coded false t = Refused noEncoding
+coded false t = NoCode
 
 abbrev pub text1 : ℕ → Text
 text1 p = record { count = 1; p0 = p; p1 = 0; p2 = 0; p3 = 0; p4 = 0; p5 = 0 }
@@ -215,23 +215,11 @@ encodeMonadic i =
 
 -- ---- an instruction at a length in parcels, the prefix counted
 
-abbrev pub wideLength : Wide → ℕ
-wideLength Three = 3
-wideLength Five = 5
-
-abbrev pub prefixLength : Bool → ℕ
-prefixLength true = 1
-prefixLength false = 0
-
-abbrev pub lengthOf : Instruction → ℕ
-lengthOf (instruction.Short i) = 1
-lengthOf (instruction.Dyadic i) = wideLength (i .wide) + prefixLength (i .prefix)
-lengthOf (instruction.Monadic i) = 3 + prefixLength (i .prefix)
-
 abbrev pub encodeAny : Instruction → Encoded
 encodeAny (instruction.Short i) = encodeShort i
 encodeAny (instruction.Dyadic i) = encodeDyadic i
 encodeAny (instruction.Monadic i) = encodeMonadic i
 
+-- request (g): "A form, prefix and length that disagree are given number 5 too by the encoder"
 unfoldable pub encodeOf : Instruction → ℕ → Encoded
-encodeOf i n = cond (eqb n (lengthOf i)) (encodeAny i) (Refused noEncoding)
+encodeOf i n = cond (eqb n (lengthOf i)) (encodeAny i) NoCode

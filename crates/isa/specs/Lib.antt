@@ -1,7 +1,9 @@
-pub mod Refusals
+pub mod Lengths
+pub mod Answers
 pub mod Fields
 pub mod Tables
 pub mod Legal
 pub mod Decode
+pub mod Carried
 pub mod Encodings
 pub mod Encode

@@ -1,6 +1,7 @@
 // The instruction set as data: rows of the encodings lists, operand modes, instructions and answers.
 // What these mean is defined in specs/; the crates decode_tables, decode, encode_tables and encode are the code.
 pub mod fields;
+pub mod lengths;
 
 // A line of the encodings lists (section 3.3) at length 2: one parcel. The lines of CPU and FLUSHD are
 // no rows: the one is the `prefix` of another instruction, the other is unimplemented by its own page.
@@ -200,19 +201,19 @@ pub struct Text {
     pub p5: u16,
 }
 
-// What the decoder answers. Trap is the trapped niladic of section 1.11.4.
+// What the decoder answers: an instruction with its length in parcels, the prefix counted, or what carries none: illegal;
+// unimplemented, with the offset of its vector, which of a trapped niladic is another (1.11.4); too few parcels.
 pub enum Decoded {
-    Is(Instruction),
+    Is(Instruction, u32),
     Illegal,
-    Unimplemented,
-    Trap,
-    Refused(u32),
+    Unimplemented(u32),
+    Truncated,
 }
 
 // What the encoder answers.
 pub enum Encoded {
     Parcels(Text),
-    Refused(u32),
+    NoCode,
 }
 
 // A place of Tables 1-15 to 1-17, with the operand letters of Table 1-15.
@@ -313,3 +314,8 @@ pub struct MonadicListed {
 
 // The parcel of CPU, which is a prefix.
 pub const CPU_PREFIX: u16 = 0x2C00;
+
+// Offsets of vectors (Table 1-14): of an unimplemented instruction, and of a trapped niladic.
+pub const UNIMPLEMENTED_VECTOR: u32 = 12;
+
+pub const NILADIC_TRAP_VECTOR: u32 = 8;

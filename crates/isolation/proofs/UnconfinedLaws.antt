@@ -28,7 +28,7 @@ Follows x y = (t : Traced) (d : Cpu) → x .out ≡ ok (carriedOut t d) → y �
 act-follows : (c : Cpu) (k : Dispatch) (m : Memory) → Follows (interpret plain (actConfined c k) m) (interpret plain (act c k) m)
 unfolding actConfined act _>>=_ onward interpret
 act-follows c (toVector v) m = λ t d h. let z : _≡_ {A = ℕ} 0 1 = cc in absurd (omega arith)
-act-follows c (toInstruction i) m = go (isKcall (normal i))
+act-follows c (toInstruction i n) m = go (isKcall (normal i))
   where
     ran : (o : Out Cpu) (w : Memory)
         → Follows (interpret plain (onward (λ d. ret (ok (carriedOut (traced (normal i)) d))) o) w)
@@ -37,18 +37,18 @@ act-follows c (toInstruction i) m = go (isKcall (normal i))
         let p : traced (normal i) ≡ t = cc in
         let q : d ≡ e = cc in
         rw (p, q) refl
-    ran (stop n d) w t e h = let z : _≡_ {A = ℕ} 0 1 = cc in absurd (omega arith)
+    ran (stop x d) w t e h = let z : _≡_ {A = ℕ} 0 1 = cc in absurd (omega arith)
 
     go : (b : Bool) → Follows
-        (interpret plain (cond b (ret (ok (fetched kcallCode))) (execute c i >>= (λ d. ret (ok (carriedOut (traced (normal i)) d))))) m)
-        (interpret plain (execute c i >>= (λ d. done (finished (traced (normal i)) d))) m)
+        (interpret plain (cond b (ret (ok (fetched kcallCode))) (execute c i n >>= (λ d. ret (ok (carriedOut (traced (normal i)) d))))) m)
+        (interpret plain (execute c i n >>= (λ d. done (finished (traced (normal i)) d))) m)
     go true = λ t d h. let z : _≡_ {A = ℕ} 0 1 = cc in absurd (omega arith)
     go false =
         rw (
-          interpret-after plain (execute c i) (onward (λ d. ret (ok (carriedOut (traced (normal i)) d)))) m,
-          interpret-after plain (execute c i) (onward (λ d. done (finished (traced (normal i)) d))) m,
+          interpret-after plain (execute c i n) (onward (λ d. ret (ok (carriedOut (traced (normal i)) d)))) m,
+          interpret-after plain (execute c i n) (onward (λ d. done (finished (traced (normal i)) d))) m,
         )
-        (ran (interpret plain (execute c i) m .out) (interpret plain (execute c i) m .world))
+        (ran (interpret plain (execute c i n) m .out) (interpret plain (execute c i n) m .world))
 
 attempt-follows : (c : Cpu) (m : Memory) → Follows (interpret plain (confinedAttempt c) m) (interpret plain (attempt c) m)
 unfolding confinedAttempt attempt _>>=_ onward interpret

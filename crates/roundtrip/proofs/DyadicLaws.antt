@@ -25,15 +25,17 @@ use Rattle.isa.specs.declared.DyadicEntry.the-variants as entry
 use Rattle.isa.specs.declared.DyadicInstruction.{DyadicInstruction}
 use Rattle.isa.specs.declared.Instruction.{Instruction}
 use Rattle.isa.specs.declared.Instruction.the-variants as instruction
-use Rattle.isa.specs.declared.Decoded.the-variants.{Is, Illegal, Unimplemented}
+use Rattle.isa.specs.declared.Decoded.the-variants.{Illegal, Unimplemented}
 use Rattle.isa.specs.declared.Text.{Text}
 use Rattle.isa.specs.declared.Encoded.the-variants.{Parcels}
 use Rattle.isa.specs.declared.Rule.the-variants.{OneRegister}
+use Rattle.isa.specs.Lengths.{wideLength, prefixLength, lengthOf}
+use Rattle.isa.specs.Answers.{unimplementedVector, withLength}
 use Rattle.isa.specs.Tables.{dyadicOf}
 use Rattle.isa.specs.Legal.{legalOf}
 use Rattle.isa.specs.Decode.{operandValue, operandFound, modeEntry, bothFound, decodeDyadic}
 use Rattle.isa.specs.Encodings.{dyadicListed}
-use Rattle.isa.specs.Encode.{withPrefix, operandCode, hasMode, fits, admits, operandRaw, dyadicText, dyadicHasCode, encodeDyadic, encodeAny, lengthOf, wideLength, prefixLength}
+use Rattle.isa.specs.Encode.{withPrefix, operandCode, hasMode, fits, admits, operandRaw, dyadicText, dyadicHasCode, encodeDyadic, encodeAny}
 use Rattle.roundtrip.specs.Unused.{registerClear}
 use Rattle.isa.proofs.BoundLaws.{opcode-lt, operand-lt}
 use Rattle.roundtrip.proofs.DyadicTableLaws.{fieldOf, operand-back, ruleOf, same-rule, row-back, RowThere, row-there, ModeThere, mode-there}
@@ -81,7 +83,7 @@ module _ (i : DyadicInstruction) (h : dyadicHasCode i ≡ true) where
   pub dyadic-back : decodeDyadic (i .wide) (i .prefix)
       (firstOf (i .wide) (dyadicListed (i .row) .opcode) (operandCode (i .source)) (operandCode (i .destination)))
       (fieldOf (i .wide) (operandRaw (i .source))) (fieldOf (i .wide) (operandRaw (i .destination)))
-      ≡ Is (instruction.Dyadic i)
+      ≡ withLength (instruction.Dyadic i)
   unfolding decodeDyadic
   dyadic-back =
       let w = i .wide in
@@ -199,23 +201,23 @@ module _ (w : Wide) (pre : Bool) (o s d x y : ℕ) where
 
   dyadic-there : (e : DyadicEntry) (fs fd : OperandFound) (j : Instruction) → RowThere e o
       → ((q : Operand) → fs ≡ found.Is q → Found w pre q s x) → ((q : Operand) → fd ≡ found.Is q → Found w pre q d y)
-      → bothFound e w pre fs fd ≡ Is j → Encodes w pre o s d x y j
+      → bothFound e w pre fs fd ≡ withLength j → Encodes w pre o s d x y j
   dyadic-there (entry.Row r u) (found.Is a) (found.Is b) j t hs hd e =
       by-test (legalOf u a b)
       (λ l.
       let i : DyadicInstruction = record { row = r; wide = w; prefix = pre; source = a; destination = b } in
-      let q : Is (instruction.Dyadic i) ≡ Is j = simp l at e in
+      let q : withLength (instruction.Dyadic i) ≡ withLength j = simp l at e in
       let k : instruction.Dyadic i ≡ j = cc in
       subst (Encodes w pre o s d x y) k
       (row-encodes i refl refl (t .0) (hs a refl) (hd b refl) (same-rule (dyadicListed r .operands) a b ∙ ap (λ v. legalOf v a b) (t .1) ∙ l)))
-      (λ l. let q : Illegal ≡ Is j = simp l at e in let z : _≡_ {A = ℕ} 0 1 = cc in absurd (omega arith))
+      (λ l. let q : Illegal ≡ withLength j = simp l at e in let z : _≡_ {A = ℕ} 0 1 = cc in absurd (omega arith))
   dyadic-there (entry.Row r u) (found.Is a) found.Nothing j t hs hd e = let z : _≡_ {A = ℕ} 0 1 = cc in absurd (omega arith)
   dyadic-there (entry.Row r u) found.Nothing (found.Is b) j t hs hd e = let z : _≡_ {A = ℕ} 0 1 = cc in absurd (omega arith)
   dyadic-there (entry.Row r u) found.Nothing found.Nothing j t hs hd e = let z : _≡_ {A = ℕ} 0 1 = cc in absurd (omega arith)
   dyadic-there entry.Unimplemented (found.Is a) (found.Is b) j t hs hd e =
       by-test (legalOf OneRegister a b)
-      (λ l. let q : Unimplemented ≡ Is j = simp l at e in let z : _≡_ {A = ℕ} 0 1 = cc in absurd (omega arith))
-      (λ l. let q : Illegal ≡ Is j = simp l at e in let z : _≡_ {A = ℕ} 0 1 = cc in absurd (omega arith))
+      (λ l. let q : Unimplemented unimplementedVector ≡ withLength j = simp l at e in let z : _≡_ {A = ℕ} 0 1 = cc in absurd (omega arith))
+      (λ l. let q : Illegal ≡ withLength j = simp l at e in let z : _≡_ {A = ℕ} 0 1 = cc in absurd (omega arith))
   dyadic-there entry.Unimplemented (found.Is a) found.Nothing j t hs hd e = let z : _≡_ {A = ℕ} 0 1 = cc in absurd (omega arith)
   dyadic-there entry.Unimplemented found.Nothing (found.Is b) j t hs hd e = let z : _≡_ {A = ℕ} 0 1 = cc in absurd (omega arith)
   dyadic-there entry.Unimplemented found.Nothing found.Nothing j t hs hd e = let z : _≡_ {A = ℕ} 0 1 = cc in absurd (omega arith)
@@ -226,7 +228,7 @@ module _ (w : Wide) (pre : Bool) (o s d x y : ℕ) where
 
 pub dyadic-encodes : (w : Wide) (pre : Bool) (p x y : ℕ) (j : Instruction) → x < limitOf w → y < limitOf w
     → (pre ≡ true → registerClear (p / 16 % 16) x ≡ true) → (pre ≡ true → registerClear (p % 16) y ≡ true)
-    → decodeDyadic w pre p x y ≡ Is j → Encodes w pre (p / 256 % 64) (p / 16 % 16) (p % 16) x y j
+    → decodeDyadic w pre p x y ≡ withLength j → Encodes w pre (p / 256 % 64) (p / 16 % 16) (p % 16) x y j
 unfolding decodeDyadic
 dyadic-encodes w pre p x y j hx hy cx cy e =
     let s = p / 16 % 16 in

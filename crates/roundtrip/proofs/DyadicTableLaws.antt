@@ -27,7 +27,6 @@ use Rattle.isa.specs.declared.DyadicRow.{DyadicRow}
 use Rattle.isa.specs.declared.DyadicRow.the-variants as row
 use Rattle.isa.specs.declared.DyadicEntry.{DyadicEntry}
 use Rattle.isa.specs.declared.DyadicEntry.the-variants as entry
-use Rattle.isa.specs.declared.Decoded.the-variants.{Is}
 use Rattle.isa.specs.Tables.{dyadicOf}
 use Rattle.isa.specs.Legal.{wordInMemory, constant, doubleWord, legalOf}
 use Rattle.isa.specs.Decode.{operandValue, operandFound, modeEntry}

@@ -24,14 +24,16 @@ use Rattle.isa.specs.declared.Single.the-variants.{Word32, Flow32, Abs32, Stk32
 use Rattle.isa.specs.declared.MonadicInstruction.{MonadicInstruction}
 use Rattle.isa.specs.declared.Instruction.{Instruction}
 use Rattle.isa.specs.declared.Instruction.the-variants as instruction
-use Rattle.isa.specs.declared.Decoded.the-variants.{Is, Illegal, Unimplemented}
+use Rattle.isa.specs.declared.Decoded.the-variants.{Illegal, Unimplemented}
 use Rattle.isa.specs.declared.Encoded.the-variants.{Parcels}
+use Rattle.isa.specs.Lengths.{prefixLength, lengthOf}
+use Rattle.isa.specs.Answers.{unimplementedVector, withLength}
 use Rattle.isa.specs.Tables.{monadicOf, monadicModeOf}
 use Rattle.isa.proofs.BoundLaws.{subcode-lt, single-lt}
 use Rattle.isa.specs.Legal.{monadicLegalOf}
 use Rattle.isa.specs.Decode.{monadicFound, monadicAnswer, decodeMonadic}
 use Rattle.isa.specs.Encodings.{monadicListed}
-use Rattle.isa.specs.Encode.{withPrefix, text3, monadicCode, takes, encodeMonadic, encodeAny, lengthOf, prefixLength}
+use Rattle.isa.specs.Encode.{withPrefix, text3, monadicCode, takes, encodeMonadic, encodeAny}
 
 -- ---- the tables against the lists
 
@@ -151,7 +153,7 @@ whole p h k e =
 -- ---- encode, then decode
 
 pub monadic-back : (i : MonadicInstruction) → takes (monadicListed (i .row) .operand) (i .mode) (i .value) ≡ true
-    → decodeMonadic (i .prefix) (firstOf (monadicCode (i .mode)) (monadicListed (i .row) .subcode)) (i .value) ≡ Is (instruction.Monadic i)
+    → decodeMonadic (i .prefix) (firstOf (monadicCode (i .mode)) (monadicListed (i .row) .subcode)) (i .value) ≡ withLength (instruction.Monadic i)
 unfolding decodeMonadic
 monadic-back i h =
     let c = monadicListed (i .row) .operand in
@@ -177,26 +179,26 @@ module _ (pre : Bool) (k j v : ℕ) where
   row-encodes r m ej ek h = record { parcels = rw (h, ej, ek) refl; length = refl }
 
   mode-encodes : (r : MonadicRow) (u : MonadicRule) (e : MonadicModeEntry) (i : Instruction) → monadicListed r .subcode ≡ j
-      → ruleOf (monadicListed r .operand) ≡ u → ModeThere (monadicListed r .operand) e k → monadicFound r u pre e v ≡ Is i → Encodes pre k j v i
+      → ruleOf (monadicListed r .operand) ≡ u → ModeThere (monadicListed r .operand) e k → monadicFound r u pre e v ≡ withLength i → Encodes pre k j v i
   mode-encodes r u (place.Is m) i ej eu t e =
       by-test (monadicLegalOf u m v)
       (λ l.
-      let q : Is (instruction.Monadic (record { row = r; prefix = pre; mode = m; value = v })) ≡ Is i = simp l at e in
+      let q : withLength (instruction.Monadic (record { row = r; prefix = pre; mode = m; value = v })) ≡ withLength i = simp l at e in
       let s : instruction.Monadic (record { row = r; prefix = pre; mode = m; value = v }) ≡ i = cc in
       subst (Encodes pre k j v) s (row-encodes r m ej (t .0) (t .1 v ∙ ap (λ (w : MonadicRule). monadicLegalOf w m v) eu ∙ l)))
-      (λ l. let q : Illegal ≡ Is i = simp l at e in let z : _≡_ {A = ℕ} 0 1 = cc in absurd (omega arith))
+      (λ l. let q : Illegal ≡ withLength i = simp l at e in let z : _≡_ {A = ℕ} 0 1 = cc in absurd (omega arith))
   mode-encodes r u place.Unlisted i ej eu t e = let z : _≡_ {A = ℕ} 0 1 = cc in absurd (omega arith)
 
-  entry-encodes : (e : MonadicEntry) (i : Instruction) → k < 16 → RowThere e j → monadicAnswer e pre k v ≡ Is i → Encodes pre k j v i
+  entry-encodes : (e : MonadicEntry) (i : Instruction) → k < 16 → RowThere e j → monadicAnswer e pre k v ≡ withLength i → Encodes pre k j v i
   entry-encodes (entry.Row r u) i h t e =
       mode-encodes r u (monadicModeOf u k) i (t .0) (t .1)
       (subst (λ (w : MonadicRule). ModeThere (monadicListed r .operand) (monadicModeOf w k) k) (t .1) (mode-there (monadicListed r .operand) k h)) e
   entry-encodes entry.Unimplemented i h t e =
       by-test (ltb k 0xC)
-      (λ l. let q : Illegal ≡ Is i = simp l at e in let z : _≡_ {A = ℕ} 0 1 = cc in absurd (omega arith))
-      (λ l. let q : Unimplemented ≡ Is i = simp l at e in let z : _≡_ {A = ℕ} 0 1 = cc in absurd (omega arith))
+      (λ l. let q : Illegal ≡ withLength i = simp l at e in let z : _≡_ {A = ℕ} 0 1 = cc in absurd (omega arith))
+      (λ l. let q : Unimplemented unimplementedVector ≡ withLength i = simp l at e in let z : _≡_ {A = ℕ} 0 1 = cc in absurd (omega arith))
   entry-encodes entry.Unlisted i h t e = let z : _≡_ {A = ℕ} 0 1 = cc in absurd (omega arith)
 
-pub monadic-encodes : (pre : Bool) (p v : ℕ) (i : Instruction) → decodeMonadic pre p v ≡ Is i → Encodes pre (p / 16 % 16) (p % 16) v i
+pub monadic-encodes : (pre : Bool) (p v : ℕ) (i : Instruction) → decodeMonadic pre p v ≡ withLength i → Encodes pre (p / 16 % 16) (p % 16) v i
 unfolding decodeMonadic
 monadic-encodes pre p v i e = entry-encodes pre (p / 16 % 16) (p % 16) v (monadicOf (p % 16)) i (omega arith) (row-there (p % 16) (omega arith)) e

@@ -1,4 +1,4 @@
--- The decoder and the encoder are each other's inverse (demand 2).
+-- The decoder and the encoder are each other's inverse, and hold to the length.
 -- Assumes nothing.
 use Prim.Native.Nat.{ℕ, _+_, _-_, _/_, _%_, _<_, _≤_}
 use mathlib.Core.Path.{_≡_, refl, sym, ap, subst, _∙_}
@@ -18,31 +18,34 @@ use Rattle.isa.specs.declared.Instruction.{Instruction}
 use Rattle.isa.specs.declared.Instruction.the-variants as instruction
 use Rattle.isa.specs.declared.Wide.{Wide}
 use Rattle.isa.specs.declared.Wide.the-variants.{Three, Five}
-use Rattle.isa.specs.declared.Decoded.the-variants.{Is, Illegal, Refused}
+use Rattle.isa.specs.declared.Decoded.the-variants.{Is, Illegal, Truncated}
 use Rattle.isa.specs.declared.Encoded.the-variants as encoded
-use Rattle.isa.specs.Refusals.{truncatedText, noEncoding}
+use Rattle.isa.specs.Lengths.{wideLength, prefixLength, lengthOf}
+use Rattle.isa.specs.Answers.{withLength}
 use Rattle.isa.specs.Tables.{shortOf}
 use Rattle.isa.specs.Decode.{shortEntry, shortInstruction, shortAnswer, decodeShort, decodeWide, decodePrefixed, decodeBare, decodeOf, cpuPrefix, textOf}
 use Rattle.isa.specs.Encodings.{shortListed}
-use Rattle.isa.specs.Encode.{text1, text3, text5, withPrefix, shortParcel, carries, encodeShort, encodeAny, lengthOf, encodeOf, wideLength, prefixLength}
+use Rattle.isa.specs.Encode.{text1, text3, text5, withPrefix, shortParcel, carries, encodeShort, encodeAny, encodeOf}
+use Rattle.isa.proofs.Carried.{own-length}
 use Rattle.roundtrip.proofs.ShortLaws as short
 use Rattle.roundtrip.specs.Unused.{unusedZero, parcelsOf, firstParcels}
+use Rattle.roundtrip.specs.RoundTrip.{EncodeDecode, DecodeEncode, Disagreeing}
 use Rattle.roundtrip.proofs.WideLaws.{given, dyadic-decodes, monadic-decodes}
 use Rattle.roundtrip.proofs.WideBackLaws.{Long, three, five, wide-back}
 
 -- ---- one parcel
 
 -- a one-parcel text that decodes is no prefix and no beginning of a longer one, so it decodes whatever follows
-short-first : (p : ℕ) (j : Instruction) → decodeOf (text1 p) ≡ Is j → (p < 0x8000) × (decodeShort p ≡ Is j) × (p ≡ cpuPrefix → ⊥)
+short-first : (p : ℕ) (j : Instruction) → decodeOf (text1 p) ≡ withLength j → (p < 0x8000) × (decodeShort p ≡ withLength j) × (p ≡ cpuPrefix → ⊥)
 unfolding decodeOf decodePrefixed decodeBare decodeWide
 short-first p j e =
     by-test (eqb p cpuPrefix)
-    (λ t. let q : Refused truncatedText ≡ Is j = simp t at e in let z : _≡_ {A = ℕ} 0 1 = cc in absurd (omega arith))
+    (λ t. let q : Truncated ≡ withLength j = simp t at e in let z : _≡_ {A = ℕ} 0 1 = cc in absurd (omega arith))
     (λ t. by-test (ltb p 0x8000)
     (λ s. (ltb-true p 0x8000 s, simp (t, s) at e, eqb-false p cpuPrefix t))
     (λ s. by-test (ltb p 0xC000)
-    (λ u. let q : Refused truncatedText ≡ Is j = simp (t, s, u) at e in let z : _≡_ {A = ℕ} 0 1 = cc in absurd (omega arith))
-    (λ u. let q : Refused truncatedText ≡ Is j = simp (t, s, u) at e in let z : _≡_ {A = ℕ} 0 1 = cc in absurd (omega arith))))
+    (λ u. let q : Truncated ≡ withLength j = simp (t, s, u) at e in let z : _≡_ {A = ℕ} 0 1 = cc in absurd (omega arith))
+    (λ u. let q : Truncated ≡ withLength j = simp (t, s, u) at e in let z : _≡_ {A = ℕ} 0 1 = cc in absurd (omega arith))))
 
 short-text : (n p a b c d e : ℕ) → 1 ≤ n → p < 0x8000 → (p ≡ cpuPrefix → ⊥)
     → decodeOf (record { count = n; p0 = p; p1 = a; p2 = b; p3 = c; p4 = d; p5 = e }) ≡ decodeShort p
@@ -50,29 +53,45 @@ unfolding decodeOf decodeBare
 short-text n p a b c d e h l k = simp (le-ltb n 1 h, ne-eqb p cpuPrefix k, lt-ltb p 0x8000 l)
 
 short-decodes : (i : ShortInstruction) (t : Text) (rest : List ℕ) → encodeShort i ≡ encoded.Parcels t
-    → decodeOf (textOf (parcelsOf t ++ rest)) ≡ Is (instruction.Short i)
+    → decodeOf (textOf (parcelsOf t ++ rest)) ≡ withLength (instruction.Short i)
 unfolding encodeShort
 short-decodes i t rest e =
     let l = shortListed (i .row) in
     let p = shortParcel l (i .source) (i .destination) in
     let g = given (carries (l .source) (i .source) && carries (l .destination) (i .destination)) (text1 p) t e in
-    let f = short-first p (instruction.Short i) (subst (λ (u : Text). decodeOf u ≡ Is (instruction.Short i)) (sym (g .text)) (short.encode-decode i t e)) in
-    subst (λ (u : Text). decodeOf (textOf (parcelsOf u ++ rest)) ≡ Is (instruction.Short i)) (g .text)
+    let j = instruction.Short i in
+    let f = short-first p j (subst (λ (u : Text). decodeOf u ≡ withLength j) (sym (g .text)) (short.encode-decode i t e)) in
+    subst (λ (u : Text). decodeOf (textOf (parcelsOf u ++ rest)) ≡ withLength j) (g .text)
     (short-text _ p _ _ _ _ _ (omega arith) (f .0) (f .2) ∙ f .1)
 
 -- ---- what the encoder gives decodes to the same instruction, whatever parcels follow
 
-any-decodes : (i : Instruction) (t : Text) (rest : List ℕ) → encodeAny i ≡ encoded.Parcels t → decodeOf (textOf (parcelsOf t ++ rest)) ≡ Is i
+any-decodes : (i : Instruction) (t : Text) (rest : List ℕ) → encodeAny i ≡ encoded.Parcels t → decodeOf (textOf (parcelsOf t ++ rest)) ≡ withLength i
 any-decodes (instruction.Short i) t rest e = short-decodes i t rest e
 any-decodes (instruction.Dyadic i) t rest e = dyadic-decodes i t rest e
 any-decodes (instruction.Monadic i) t rest e = monadic-decodes i t rest e
 
-pub encode-decode : (i : Instruction) (n : ℕ) (t : Text) (rest : List ℕ) → encodeOf i n ≡ encoded.Parcels t → decodeOf (textOf (parcelsOf t ++ rest)) ≡ Is i
+pub encode-decode : EncodeDecode
 unfolding encodeOf
 encode-decode i n t rest e =
     by-test (eqb n (lengthOf i))
-    (λ b. any-decodes i t rest (simp b at e))
-    (λ b. let q : encoded.Refused noEncoding ≡ encoded.Parcels t = simp b at e in let z : _≡_ {A = ℕ} 0 1 = cc in absurd (omega arith))
+    (λ b. any-decodes i t rest (simp b at e) ∙ ap (Is i) (sym (eqb-true n (lengthOf i) b)))
+    (λ b. let q : encoded.NoCode ≡ encoded.Parcels t = simp b at e in let z : _≡_ {A = ℕ} 0 1 = cc in absurd (omega arith))
+
+-- ---- the length
+
+pub disagreeing : Disagreeing
+unfolding encodeOf
+disagreeing i n h = simp (ne-eqb n (lengthOf i) h)
+
+positive : (i : Instruction) → 1 ≤ lengthOf i
+positive (instruction.Short i) = omega arith
+positive (instruction.Dyadic i) = go (i .wide)
+  where
+    go : (w : Wide) → 1 ≤ wideLength w + prefixLength (i .prefix)
+    go Three = omega arith
+    go Five = omega arith
+positive (instruction.Monadic i) = omega arith
 
 -- ---- parcels that decode to an instruction, with unused bits zero, encode to themselves at their length
 
@@ -111,8 +130,8 @@ pub record Sixteen (t : Text) : Type 0 where
   pub b5 : t .p5 < 65536
 
 -- a one-parcel answer is a one-parcel instruction
-short-answer : (e : ShortEntry) (p : ℕ) (j : Instruction) → ((i : ShortInstruction) → Is (instruction.Short i) ≡ Is j → Same (text1 p) j)
-    → shortAnswer e p ≡ Is j → Same (text1 p) j
+short-answer : (e : ShortEntry) (p : ℕ) (j : Instruction) → ((i : ShortInstruction) → withLength (instruction.Short i) ≡ withLength j → Same (text1 p) j)
+    → shortAnswer e p ≡ withLength j → Same (text1 p) j
 short-answer (entry.Row r s d) p j k e = k (shortInstruction r s d p) e
 short-answer entry.Stack p j k e = let z : _≡_ {A = ℕ} 0 1 = cc in absurd (omega arith)
 short-answer entry.Niladic p j k e = let z : _≡_ {A = ℕ} 0 1 = cc in absurd (omega arith)
@@ -121,47 +140,35 @@ short-answer entry.Unimplemented p j k e = let z : _≡_ {A = ℕ} 0 1 = cc in a
 short-answer entry.Trap p j k e = let z : _≡_ {A = ℕ} 0 1 = cc in absurd (omega arith)
 short-answer entry.Unlisted p j k e = let z : _≡_ {A = ℕ} 0 1 = cc in absurd (omega arith)
 
-short-same : (p : ℕ) (j : Instruction) → p < 0x8000 → decodeShort p ≡ Is j → Same (text1 p) j
+short-same : (p : ℕ) (j : Instruction) → p < 0x8000 → decodeShort p ≡ withLength j → Same (text1 p) j
 unfolding decodeShort
 short-same p j h e = short-answer (shortEntry (shortOf (p / 1024 % 32)) p) p j (λ i q. back i q) e
   where
-    back : (i : ShortInstruction) → Is (instruction.Short i) ≡ Is j → Same (text1 p) j
+    back : (i : ShortInstruction) → withLength (instruction.Short i) ≡ withLength j → Same (text1 p) j
     back i q =
         let r : instruction.Short i ≡ j = cc in
-        subst (Same (text1 p)) r
-        (same (text1 p) (instruction.Short i) 1 (text1 p) refl (omega arith) (short.decode-encode p i h (subst (λ (k : Instruction). decodeShort p ≡ Is k) (sym r) e)) refl)
-
-short-length : (p : ℕ) (j : Instruction) → decodeShort p ≡ Is j → lengthOf j ≡ 1
-unfolding decodeShort
-short-length p j e = go (shortEntry (shortOf (p / 1024 % 32)) p) e
-  where
-    go : (x : ShortEntry) → shortAnswer x p ≡ Is j → lengthOf j ≡ 1
-    go (entry.Row r s d) f = let q : instruction.Short (shortInstruction r s d p) ≡ j = cc in ap lengthOf (sym q)
-    go entry.Stack f = let z : _≡_ {A = ℕ} 0 1 = cc in absurd (omega arith)
-    go entry.Niladic f = let z : _≡_ {A = ℕ} 0 1 = cc in absurd (omega arith)
-    go entry.Prefix f = let z : _≡_ {A = ℕ} 0 1 = cc in absurd (omega arith)
-    go entry.Unimplemented f = let z : _≡_ {A = ℕ} 0 1 = cc in absurd (omega arith)
-    go entry.Trap f = let z : _≡_ {A = ℕ} 0 1 = cc in absurd (omega arith)
-    go entry.Unlisted f = let z : _≡_ {A = ℕ} 0 1 = cc in absurd (omega arith)
+        let d = subst (λ (k : Instruction). decodeShort p ≡ withLength k) (sym r) e in
+        subst (Same (text1 p)) r (same (text1 p) (instruction.Short i) 1 (text1 p) refl (omega arith) (short.decode-encode p i h d) refl)
 
 -- only the first parcel of a one-parcel instruction counts
-widened : (t : Text) (j : Instruction) → 1 ≤ t .count → lengthOf j ≡ 1 → Same (text1 (t .p0)) j → Same t j
-widened t j h e s =
+widened : (t : Text) (j : Instruction) → 1 ≤ t .count → Same (text1 (t .p0)) j → Same t j
+widened t j h s =
+    let e : lengthOf j ≡ 1 = omega (arith, s .enough, positive j) in
     record {
       enough = omega (arith, e);
       parcels = s .parcels ∙ ap (λ (k : ℕ). encoded.Parcels (firstParcels k (text1 (t .p0)))) e ∙ ap (λ (k : ℕ). encoded.Parcels (firstParcels k t)) (sym e);
     }
 
-pub text-encode : (t : Text) (j : Instruction) → Sixteen t → unusedZero t ≡ true → decodeOf t ≡ Is j → Same t j
+pub text-encode : (t : Text) (j : Instruction) → Sixteen t → unusedZero t ≡ true → decodeOf t ≡ withLength j → Same t j
 unfolding decodeOf decodePrefixed decodeBare
 text-encode t j b u e =
     by-test (ltb (t .count) 1)
-    (λ n. let q : Refused truncatedText ≡ Is j = simp n at e in let z : _≡_ {A = ℕ} 0 1 = cc in absurd (omega arith))
+    (λ n. let q : Truncated ≡ withLength j = simp n at e in let z : _≡_ {A = ℕ} 0 1 = cc in absurd (omega arith))
     (λ n. by-test (eqb (t .p0) cpuPrefix)
     (λ p. by-test (ltb (t .count) 2)
-    (λ m. let q : Refused truncatedText ≡ Is j = simp (n, p, m) at e in let z : _≡_ {A = ℕ} 0 1 = cc in absurd (omega arith))
+    (λ m. let q : Truncated ≡ withLength j = simp (n, p, m) at e in let z : _≡_ {A = ℕ} 0 1 = cc in absurd (omega arith))
     (λ m. by-test (ltb (t .p1) 0x8000)
-    (λ k. let q : Illegal ≡ Is j = simp (n, p, m, k) at e in let z : _≡_ {A = ℕ} 0 1 = cc in absurd (omega arith))
+    (λ k. let q : Illegal ≡ withLength j = simp (n, p, m, k) at e in let z : _≡_ {A = ℕ} 0 1 = cc in absurd (omega arith))
     (λ k.
     long-prefixed t j (eqb-true (t .p0) cpuPrefix p) (ltb-false (t .count) 2 m)
     (wide-back true (t .count - 2) (t .p1) (t .p2) (t .p3) (t .p4) (t .p5) j (b .b2) (b .b3) (b .b4) (b .b5)
@@ -174,10 +181,7 @@ text-encode t j b u e =
     (ltb-false (t .p0) 0x8000 k) (b .b0) (λ z. let y : _≡_ {A = ℕ} 0 1 = cc in absurd (omega arith)) (simp (n, p, k) at e)))))
   where
     bare-short : ltb (t .count) 1 ≡ false → eqb (t .p0) cpuPrefix ≡ false → ltb (t .p0) 0x8000 ≡ true → Same t j
-    bare-short n p k =
-        let d : decodeShort (t .p0) ≡ Is j = simp (n, p, k) at e in
-        let s = short-same (t .p0) j (ltb-true (t .p0) 0x8000 k) d in
-        widened t j (ltb-false (t .count) 1 n) (short-length (t .p0) j d) s
+    bare-short n p k = widened t j (ltb-false (t .count) 1 n) (short-same (t .p0) j (ltb-true (t .p0) 0x8000 k) (simp (n, p, k) at e))
 
 -- ---- the same of a list of parcels
 
@@ -193,17 +197,9 @@ first-take n ps h l =
     let a : getD ps 0 0 ≡ getD (take n ps) 0 0 = sym (getD-take n ps 0 0 h) in
     cc (take-at n 1 ps, take-at n 2 ps, take-at n 3 ps, take-at n 4 ps, take-at n 5 ps)
 
-pub decode-encode : (ps : List ℕ) (j : Instruction) → ((k : ℕ) → getD ps k 0 < 65536) → unusedZero (textOf ps) ≡ true → decodeOf (textOf ps) ≡ Is j
-    → encodeOf j (lengthOf j) ≡ encoded.Parcels (textOf (take (lengthOf j) ps))
-decode-encode ps j b u e =
-    let s = text-encode (textOf ps) j (record { b0 = b 0; b1 = b 1; b2 = b 2; b3 = b 3; b4 = b 4; b5 = b 5 }) u e in
-    s .parcels ∙ ap encoded.Parcels (first-take (lengthOf j) ps (positive j) (s .enough))
-  where
-    positive : (i : Instruction) → 1 ≤ lengthOf i
-    positive (instruction.Short i) = omega arith
-    positive (instruction.Dyadic i) = go (i .wide)
-      where
-        go : (w : Wide) → 1 ≤ wideLength w + prefixLength (i .prefix)
-        go Three = omega arith
-        go Five = omega arith
-    positive (instruction.Monadic i) = omega arith
+pub decode-encode : DecodeEncode
+decode-encode ps j n b u e =
+    let l = own-length (textOf ps) j n e in
+    let s = text-encode (textOf ps) j (record { b0 = b 0; b1 = b 1; b2 = b 2; b3 = b 3; b4 = b 4; b5 = b 5 }) u (e ∙ ap (Is j) l) in
+    subst (λ (k : ℕ). (k ≤ length ps) × (encodeOf j k ≡ encoded.Parcels (textOf (take k ps)))) (sym l)
+    (s .enough, s .parcels ∙ ap encoded.Parcels (first-take (lengthOf j) ps (positive j) (s .enough)))

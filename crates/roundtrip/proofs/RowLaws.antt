@@ -12,7 +12,7 @@ use Rattle.isa.specs.declared.ShortEntry.{ShortEntry}
 use Rattle.isa.specs.declared.ShortEntry.the-variants.{Row}
 use Rattle.isa.specs.declared.ShortInstruction.{ShortInstruction}
 use Rattle.isa.specs.declared.Instruction.the-variants.{Short}
-use Rattle.isa.specs.declared.Decoded.the-variants.{Is}
+use Rattle.isa.specs.Answers.{withLength}
 use Rattle.isa.specs.Fields.{sourceField, fieldValue}
 use Rattle.isa.specs.Tables.{shortOf, stackOf, niladicOf}
 use Rattle.isa.specs.Encodings.{shortListed}
@@ -26,7 +26,7 @@ fielded r s d x y = record { row = r; source = fieldValue s x; destination = fie
 -- a parcel of the one-parcel form that is decoded to i
 pub record From (p : ℕ) (i : ShortInstruction) : Type 0 where
   pub below : p < 0x8000
-  pub decoded : decodeShort p ≡ Is (Short i)
+  pub decoded : decodeShort p ≡ withLength (Short i)
 
 -- by what the tables hold at p and what its fields are
 found : {r : ShortRow} {s d : FieldMode} (p x y : ℕ) → p < 0x8000 → shortEntry (shortOf (p / 1024 % 32)) p ≡ Row r s d
@@ -37,7 +37,7 @@ found {r} {s} {d} p x y h e f g =
       below = h;
       decoded =
           ap (λ (w : ShortEntry). shortAnswer w p) e
-          ∙ ap₂ (λ (a b : ℕ). Is (Short (record { row = r; source = a; destination = b }))) (ap (fieldValue s) f) g;
+          ∙ ap₂ (λ (a b : ℕ). withLength (Short (record { row = r; source = a; destination = b }))) (ap (fieldValue s) f) g;
     }
 
 -- an opcode with two fields of five bits, and with one of ten

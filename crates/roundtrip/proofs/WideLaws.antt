@@ -11,8 +11,8 @@ use Rattle.isa.specs.declared.Text.{Text}
 use Rattle.isa.specs.declared.DyadicInstruction.{DyadicInstruction}
 use Rattle.isa.specs.declared.MonadicInstruction.{MonadicInstruction}
 use Rattle.isa.specs.declared.Instruction.the-variants as instruction
-use Rattle.isa.specs.declared.Decoded.the-variants.{Is}
 use Rattle.isa.specs.declared.Encoded.the-variants.{Parcels}
+use Rattle.isa.specs.Answers.{withLength}
 use Rattle.isa.specs.Decode.{decodeOf, decodeDyadic, decodeMonadic, joined, textOf}
 use Rattle.isa.specs.Encodings.{dyadicListed, monadicListed}
 use Rattle.isa.specs.Encode.{coded, withPrefix, text3, dyadicText, operandCode, operandRaw, dyadicHasCode, encodeDyadic, monadicCode, takes, encodeMonadic}
@@ -57,11 +57,11 @@ module _ (o s d x y : ℕ) (ho : o < 64) (hp : 0 < o) (hs : s < 16) (hd : d < 16
 
 -- dyadicText with its first parcel named
 pub dyadic-decodes : (i : DyadicInstruction) (t : Text) (rest : List ℕ) → encodeDyadic i ≡ Parcels t
-    → decodeOf (textOf (parcelsOf t ++ rest)) ≡ Is (instruction.Dyadic i)
+    → decodeOf (textOf (parcelsOf t ++ rest)) ≡ withLength (instruction.Dyadic i)
 unfolding encodeDyadic
 dyadic-decodes i t rest e =
     let g = given (dyadicHasCode i) _ t e in
-    subst (λ (u : Text). decodeOf (textOf (parcelsOf u ++ rest)) ≡ Is (instruction.Dyadic i)) (g .text)
+    subst (λ (u : Text). decodeOf (textOf (parcelsOf u ++ rest)) ≡ withLength (instruction.Dyadic i)) (g .text)
     (texted (dyadicListed (i .row) .opcode) (operandCode (i .source)) (operandCode (i .destination)) (operandRaw (i .source)) (operandRaw (i .destination))
     (opcode-lt (i .row)) (opcode-pos (i .row)) (operand-lt (i .source)) (operand-lt (i .destination)) rest (i .prefix) (i .wide)
     ∙ dyadic.dyadic-back i (g .holds))
@@ -81,10 +81,10 @@ module _ (k j v : ℕ) (hk : k < 16) (hj : j < 16) (rest : List ℕ) where
       ∙ three-monadic true _ _ _ zero ∙ ap (decodeMonadic true (monadic.firstOf k j)) (halves v)
 
 pub monadic-decodes : (i : MonadicInstruction) (t : Text) (rest : List ℕ) → encodeMonadic i ≡ Parcels t
-    → decodeOf (textOf (parcelsOf t ++ rest)) ≡ Is (instruction.Monadic i)
+    → decodeOf (textOf (parcelsOf t ++ rest)) ≡ withLength (instruction.Monadic i)
 unfolding encodeMonadic
 monadic-decodes i t rest e =
     let g = given (takes (monadicListed (i .row) .operand) (i .mode) (i .value)) _ t e in
-    subst (λ (u : Text). decodeOf (textOf (parcelsOf u ++ rest)) ≡ Is (instruction.Monadic i)) (g .text)
+    subst (λ (u : Text). decodeOf (textOf (parcelsOf u ++ rest)) ≡ withLength (instruction.Monadic i)) (g .text)
     (single (monadicCode (i .mode)) (monadicListed (i .row) .subcode) (i .value) (single-lt (i .mode)) (subcode-lt (i .row)) rest (i .prefix)
     ∙ monadic.monadic-back i (g .holds))

@@ -86,8 +86,8 @@ isKcall (oneOperand o m v) = kcalls o
 isKcall (noOperand o) = false
 
 unfoldable pub actConfined : Cpu → Dispatch → Program (Out ConfinedActed)
-actConfined c (toInstruction i) =
-    cond (isKcall (normal i)) (ret (ok (fetched kcallCode))) (execute c i >>= (λ d. ret (ok (carriedOut (traced (normal i)) d))))
+actConfined c (toInstruction i n) =
+    cond (isKcall (normal i)) (ret (ok (fetched kcallCode))) (execute c i n >>= (λ d. ret (ok (carriedOut (traced (normal i)) d))))
 actConfined c (toVector v) = ret (ok (fetched unimplementedCode))
 
 unfoldable pub confinedAttempt : Cpu → Program (Out ConfinedActed)

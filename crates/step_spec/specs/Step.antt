@@ -6,7 +6,7 @@ use lib.Dec.{eqb}
 use Rattle.word.specs.Fields.{bitOf}
 use Rattle.isa.specs.declared.Instruction.{Instruction}
 use Rattle.isa.specs.declared.Decoded.{Decoded}
-use Rattle.isa.specs.declared.Decoded.the-variants.{Is, Illegal, Unimplemented, Trap, Refused}
+use Rattle.isa.specs.declared.Decoded.the-variants.{Is, Illegal, Unimplemented, Truncated}
 use Rattle.isa.specs.Decode.{decodeOf}
 use Rattle.access_spec.specs.Program.{Program, ret, after}
 use Rattle.machine.specs.Registers.{config, psw, traceDue, sp, msp, stackHeld}
@@ -22,17 +22,16 @@ use Rattle.machine.specs.Bits.{traceInstructionBit, traceBlockBit}
 
 -- ---- what the text at PC is
 
--- an instruction, or a vector's offset: unimplemented 12, trapped niladic 8
+-- an instruction with its length in parcels, or the offset of a vector
 pub data Dispatch : Type 0 where
-  toInstruction : Instruction → Dispatch
+  toInstruction : Instruction → ℕ → Dispatch
   toVector : ℕ → Dispatch
 
 abbrev pub dispatch : Cpu → Decoded → Out Dispatch
-dispatch c (Is i) = ok (toInstruction i)
+dispatch c (Is i n) = ok (toInstruction i n)
 dispatch c Illegal = stop illegalInstruction c
-dispatch c Unimplemented = ok (toVector 12)
-dispatch c Trap = ok (toVector 8)
-dispatch c (Refused n) = stop illegalInstruction c
+dispatch c (Unimplemented v) = ok (toVector v)
+dispatch c Truncated = stop illegalInstruction c
 
 unfoldable pub fetchInstruction : Cpu → Program (Out Dispatch)
 fetchInstruction c = do
@@ -46,8 +45,8 @@ pub data Acted : Type 0 where
   sequenced : Cpu → Acted
 
 unfoldable pub act : Cpu → Dispatch → Program (Out Acted)
-act c (toInstruction i) = do
-  d ← execute c i
+act c (toInstruction i n) = do
+  d ← execute c i n
   done (finished (traced (normal i)) d)
 act c (toVector v) = do
   d ← unimplementedSequence c v

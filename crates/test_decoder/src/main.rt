@@ -1,5 +1,5 @@
 // Reads parcels, one instruction a line, and writes the number that decoding answers and, for an instruction, its eight
-// words, in hexadecimal. A mark follows where encoding the words does not give the parcels back.
+// words, in hexadecimal. A mark follows where encoding the words at their length does not give the parcels back.
 use hobbit_blocks::decode_into;
 use hobbit_blocks::encode_from;
 ghost use Prim.Native.Nat.{_≤_};
@@ -13,18 +13,12 @@ struct Line {
     parcels: [u16; 6],
 }
 
-// The length of an instruction in parcels, its prefix counted.
+// The length of an instruction in parcels, its prefix counted: at most six, which is not known of a lent block.
 fn length_of(block: [u32; 8]) -> usize
     ensures { λ r. ⌜ r ≤ 6 ⌝ }
 {
-    let prefix = (block[3] % 2) as usize;
-    if block[0] == 1 {
-        1
-    } else if block[2] == 5 {
-        5 + prefix
-    } else {
-        3 + prefix
-    }
+    let n = block[2] as usize;
+    if n < 6 { n } else { 6 }
 }
 
 // Of a register's number only bits 3:0 count (section 1.7): below is 16 for the parcel that has them, else 1.
@@ -40,7 +34,7 @@ fn cleared(mode: u32, parcel: u16, below: u16) -> u16 {
 fn without_unused(block: [u32; 8], p: [u16; 6]) -> [u16; 6] {
     let source = block[4];
     let destination = block[6];
-    if block[2] == 3 {
+    if block[2] == 3 + block[3] % 2 {
         [
             p[0],
             p[1],

@@ -3,6 +3,7 @@
 use Prim.Native.Nat.{ℕ}
 use mathlib.Core.Bool.{Bool}
 use mathlib.Core.List.{List, [], _∷_}
+use lib.ListN.{replicate}
 use lib.Dec.{T}
 use Rattle.word.specs.Sums.{addOf, subOf}
 use Rattle.memory.specs.Bytes.{Memory, load, storeAnswer, storeMemory}
@@ -19,8 +20,8 @@ use Rattle.exec_spec.specs.Operands.{located, locate, readPlace, readOperand, w
 use Rattle.exec_spec.specs.Dyadic.{checkDivisor, compute, accumulate, interlock, move, perform, dyadic}
 use Rattle.exec_spec.specs.Control.{readWord32, jump, call, callTo, readThrough}
 use Rattle.exec_spec.specs.Stack.{stackTarget, enterPlain, enterAt, enter}
-use Rattle.exec_spec.specs.EventFrames.{pushPair, pushFrame, throughVector, exceptionSequence, storePc, unimplementedSequence}
-use Rattle.exec_spec.specs.Execute.{executeMonadic, executeNormal, execute}
+use Rattle.exec_spec.specs.EventFrames.{pushPair, pushFrame, throughVector, kcall, exceptionSequence, storePc, unimplementedSequence}
+use Rattle.exec_spec.specs.Execute.{executeMonadic, executeNiladic, executeNormal, execute}
 use Rattle.step_spec.specs.Timers.{counted}
 use Rattle.step_spec.specs.Step.{fetchInstruction, act, attempt, exceptionStep, finish, instructionStep, step}
 use Rattle.run_spec.specs.Run.{RunResult, turn, actConfined, confinedAttempt, confinedTurn, advance, refusal, run}
@@ -51,6 +52,29 @@ interlockedAtR4 = runs 1 kernel (word 0x804 7 (text 0x100 (0xC3FD ∷ 0 ∷ 3 �
 -- "CALL *+0x20"
 abbrev pub called : RunResult
 called = runs 1 kernel (text 0x100 (0x0410 ∷ []) page)
+
+-- "CALL 0x200" in three parcels, the same after a prefix, and "CPU KCALL 4"
+abbrev pub calledLong : RunResult
+calledLong = runs 1 kernel (text 0x100 (0x80F1 ∷ 0 ∷ 0x200 ∷ []) page)
+
+abbrev pub calledPrefixed : RunResult
+calledPrefixed = runs 1 kernel (text 0x100 (0x2C00 ∷ 0x80F1 ∷ 0 ∷ 0x200 ∷ []) page)
+
+abbrev pub kernelCalled : RunResult
+kernelCalled = runs 1 kernel (text 0x100 (0x2C00 ∷ 0x80F0 ∷ 0 ∷ 4 ∷ []) page)
+
+-- "CPU MOV 5, 16(CSP)" in three and in five parcels
+abbrev pub movedThree : RunResult
+movedThree = runs 1 kernel (text 0x100 (0x2C00 ∷ 0x86FD ∷ 5 ∷ 0x10 ∷ []) page)
+
+abbrev pub movedFive : RunResult
+movedFive = runs 1 kernel (text 0x100 (0x2C00 ∷ 0xC6FD ∷ 0 ∷ 5 ∷ 0 ∷ 0x10 ∷ []) page)
+
+-- NOP at the last virtual address, which leads to the third page: the entries of the last segment and of its last page
+abbrev pub wrapped : RunResult
+wrapped =
+    runs 1 (with (with kernel psw 0x1_0000) pc 0xFFFF_FFFE)
+    (word 0xFFC 0x1001 (word 0x1FFC 0x2001 (text 0x2FFE (0x2C02 ∷ []) (replicate 12288 0))))
 
 -- "ENTER 0x608", with a PSW
 abbrev pub entered : ℕ → RunResult
@@ -87,6 +111,15 @@ instructions =
     -- CALL saving its own PC
     ∷ is (register called pc) 0x120 0x102
     ∷ is (memoryWord called 0x800) 0x102 0x100
+    -- CALL saving PC plus the form's length where a prefix stands before it, or counting one where there is none; KCALL
+    ∷ is (memoryWord calledPrefixed 0x800) 0x108 0x106
+    ∷ is (memoryWord calledLong 0x800) 0x106 0x108
+    ∷ is (memoryWord kernelCalled 0x7F8) 0x108 0x106
+    -- a prefixed instruction going on at PC plus the form's length
+    ∷ is (register movedThree pc) 0x108 0x106
+    ∷ is (register movedFive pc) 0x10C 0x10A
+    -- the next address in line past 2^32
+    ∷ is (register wrapped pc) 0 0x1_0000_0000
     -- ENTER keeping bit 3 of its target
     ∷ is (register (entered 0) isp) 0x600 0x608
     -- ENTER traced as a jump: bit 8 of PSW does not trace it, bit 7 does
@@ -151,7 +184,7 @@ exceptions =
     ∷ []
 
 pub instructions-checked : T (all instructions)
-unfolding instructions decodePrefixed writeRegister run refusal goodBank advance turn step instructionStep attempt act finish fetchInstruction counted executeMonadic executeNormal execute unimplementedSequence storePc throughVector addOf subOf checkDivisor compute accumulate interlock move perform dyadic located locate readPlace readOperand writePlace writeAccumulator checkRegisters readWord32 jump call stackTarget enterPlain enterAt enter checkStore fetchParcel fetchParcels fetchAfter fetchPrefixed fetchText onward _>>=_ request parcelRequest frameRequest readMemory readData writeMemory writeData readFrame writeFrame interpret after touch follow access route decodeShort decodeDyadic decodeMonadic decodeThree decodeWide decodeBare decodeOf load storeAnswer storeMemory callTo readThrough
+unfolding instructions executeNiladic kcall pushFrame pushPair segmentOf segment pageOf walkFrom walk marked fresh recorded decodePrefixed writeRegister run refusal goodBank advance turn step instructionStep attempt act finish fetchInstruction counted executeMonadic executeNormal execute unimplementedSequence storePc throughVector addOf subOf checkDivisor compute accumulate interlock move perform dyadic located locate readPlace readOperand writePlace writeAccumulator checkRegisters readWord32 jump call stackTarget enterPlain enterAt enter checkStore fetchParcel fetchParcels fetchAfter fetchPrefixed fetchText onward _>>=_ request parcelRequest frameRequest readMemory readData writeMemory writeData readFrame writeFrame interpret after touch follow access route decodeShort decodeDyadic decodeMonadic decodeThree decodeWide decodeBare decodeOf load storeAnswer storeMemory callTo readThrough
 instructions-checked = tt
 
 pub exceptions-checked : T (all exceptions)

@@ -1,4 +1,4 @@
-use Rattle.decode.proofs.ShortLaws.{row-is}
+use Rattle.decode.proofs.ShortLaws.{row-is, gap-is, trap-is}
 use borrow.Author.Needs.{needs}
 use Rattle.decode.proofs.short.answer.Statement.{statement}
 use Rattle.decode.proofs.short.answer.Tie as tie
@@ -8,6 +8,9 @@ enum-known-e c = search needs
 
 instruction-requires : tie.Need-instruction-requires
 instruction-requires c κs = search needs
+
+with-length-requires : tie.Need-with-length-requires
+with-length-requires c κs = search needs
 
 enum-told : tie.Need-enum-told
 enum-told c = search needs
@@ -40,10 +43,10 @@ returns-4 : tie.Need-returns-4
 returns-4 c = search needs
 
 returns-5 : tie.Need-returns-5
-returns-5 c = search needs
+returns-5 c = search (needs, gap-is)
 
 returns-6 : tie.Need-returns-6
-returns-6 c = search needs
+returns-6 c = search (needs, trap-is)
 
 returns-7 : tie.Need-returns-7
 returns-7 c = search needs
@@ -54,6 +57,7 @@ answer-spec =
     (tie.spec
     enum-known-e
     instruction-requires
+    with-length-requires
     enum-told
     enum-told-2
     enum-told-3

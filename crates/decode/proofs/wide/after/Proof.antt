@@ -1,20 +1,19 @@
-use mathlib.Core.Path.{ap, sym}
+use Rattle.isa.proofs.LengthLaws.{wide-positive}
 use borrow.Author.Needs.{needs}
-use Rattle.decode.specs.Forms.{afterOf}
 use Rattle.decode.proofs.wide.after.Statement.{statement}
 use Rattle.decode.proofs.wide.after.Tie as tie
 
-enum-told : tie.Need-enum-told
-enum-told c = search needs
+wide-length-requires : tie.Need-wide-length-requires
+wide-length-requires c κs = search needs
 
-enum-told-2 : tie.Need-enum-told-2
-enum-told-2 c = search needs
+cast-result : tie.Need-cast-result
+cast-result c = search needs
+
+sub-result : tie.Need-sub-result
+sub-result c = search (needs, wide-positive)
 
 returns : tie.Need-returns
-returns c = ap afterOf (sym (c .enum-told .given .1))
-
-returns-2 : tie.Need-returns-2
-returns-2 c = ap afterOf (sym (c .enum-told2 .given .1))
+returns c = search needs
 
 pub after-spec : {M : Type 1} → statement M
-after-spec = tie.close (tie.spec enum-told enum-told-2 returns returns-2)
+after-spec = tie.close (tie.spec wide-length-requires cast-result sub-result returns)

@@ -12,9 +12,6 @@ use Rattle.exec.proofs.attempt.act_on.Tie as tie
 action-of-requires : tie.Need-action-of-requires
 action-of-requires c κs = search needs
 
-length-of-requires : tie.Need-length-of-requires
-length-of-requires c κs = search needs
-
 class-of-requires : tie.Need-class-of-requires
 class-of-requires c κs = search needs
 
@@ -23,8 +20,8 @@ is-kcall-requires c κs = search needs
 
 returns : tie.Need-returns
 returns c =
-    let s = c .before .before .before .before .before .before .args in
-    kcall-stops (s .confined) (cpu (s .r .now) (s .q .now)) (s .i) _ _ (c .before .is-kcall .ensures ∙ ap isKcall (c .before .before .before .before .action-of .ensures)) refl (journaled (s .m .now) (s .journal .now)) (s .r .now) (s .q .now) (c .if1 .taken)
+    let s = c .before .before .before .before .before .args in
+    kcall-stops (s .confined) (cpu (s .r .now) (s .q .now)) (s .i) (s .n) _ _ (c .before .is-kcall .ensures ∙ ap isKcall (c .before .before .before .action-of .ensures)) refl (journaled (s .m .now) (s .journal .now)) (s .r .now) (s .q .now) (c .if1 .taken)
 
 execute-requires : tie.Need-execute-requires
 execute-requires c κs = search needs
@@ -34,9 +31,9 @@ same-length c = search needs
 
 returns-2 : tie.Need-returns-2
 returns-2 c =
-    let s = c .before .before .before .before .before .before .before .before .before .before .before .before .before .before .args in
-    instruction-stops (s .confined) (cpu (s .r .now) (s .q .now)) (s .i) _ _ (c .before .before .before .before .before .before .before .before .before .is-kcall .ensures ∙ ap isKcall (c .before .before .before .before .before .before .before .before .before .before .before .before .action-of .ensures)) refl (journaled (s .m .now) (s .journal .now)) _ _ _ _
-    (executed (cpu (s .r .now) (s .q .now)) (s .i) (journaled (s .m .now) (s .journal .now)) _ (c .before .before .before .before .before .before .before .before .before .before .before .length-of .result) (c .before .before .before .before .before .before .before .before .before .before .before .before .action-of .result) (c .before .before .before .before .before .before .before .before .before .before .before .length-of .ensures) (c .before .before .before .before .before .before .before .before .before .before .before .before .action-of .ensures) (c .before .before .before .execute .ensures))
+    let s = c .before .before .before .before .before .before .before .before .before .before .before .before .before .args in
+    instruction-stops (s .confined) (cpu (s .r .now) (s .q .now)) (s .i) (s .n) _ _ (c .before .before .before .before .before .before .before .before .before .is-kcall .ensures ∙ ap isKcall (c .before .before .before .before .before .before .before .before .before .before .before .action-of .ensures)) refl (journaled (s .m .now) (s .journal .now)) _ _ _ _
+    (executed (cpu (s .r .now) (s .q .now)) (s .i) (s .n) (journaled (s .m .now) (s .journal .now)) _ (c .before .before .before .before .before .before .before .before .before .before .before .action-of .result) (c .before .before .before .before .before .before .before .before .before .before .before .action-of .ensures) (c .before .before .before .execute .ensures))
     (c .before .before .before .before .before .before .before .before .if1 .left) (c .if2 .taken)
 
 same-length-2 : tie.Need-same-length-2
@@ -44,17 +41,16 @@ same-length-2 c = search needs
 
 returns-3 : tie.Need-returns-3
 returns-3 c =
-    let s = c .before .before .before .before .before .before .before .before .before .before .before .before .before .before .args in
-    instruction-ends (s .confined) (cpu (s .r .now) (s .q .now)) (s .i) _ _ (c .before .before .before .before .before .before .before .before .before .is-kcall .ensures ∙ ap isKcall (c .before .before .before .before .before .before .before .before .before .before .before .before .action-of .ensures)) refl (journaled (s .m .now) (s .journal .now)) _ _ _ _
-    (executed (cpu (s .r .now) (s .q .now)) (s .i) (journaled (s .m .now) (s .journal .now)) _ (c .before .before .before .before .before .before .before .before .before .before .before .length-of .result) (c .before .before .before .before .before .before .before .before .before .before .before .before .action-of .result) (c .before .before .before .before .before .before .before .before .before .before .before .length-of .ensures) (c .before .before .before .before .before .before .before .before .before .before .before .before .action-of .ensures) (c .before .before .before .execute .ensures))
-    (c .before .before .before .before .before .before .before .before .if1 .left) (c .if2 .left) _ (c .before .before .before .before .before .before .before .before .before .before .class-of .ensures .0 ∙ ap traced (c .before .before .before .before .before .before .before .before .before .before .before .before .action-of .ensures)) (c .before .before .before .before .before .before .before .before .before .before .class-of .ensures .1)
+    let s = c .before .before .before .before .before .before .before .before .before .before .before .before .before .args in
+    instruction-ends (s .confined) (cpu (s .r .now) (s .q .now)) (s .i) (s .n) _ _ (c .before .before .before .before .before .before .before .before .before .is-kcall .ensures ∙ ap isKcall (c .before .before .before .before .before .before .before .before .before .before .before .action-of .ensures)) refl (journaled (s .m .now) (s .journal .now)) _ _ _ _
+    (executed (cpu (s .r .now) (s .q .now)) (s .i) (s .n) (journaled (s .m .now) (s .journal .now)) _ (c .before .before .before .before .before .before .before .before .before .before .before .action-of .result) (c .before .before .before .before .before .before .before .before .before .before .before .action-of .ensures) (c .before .before .before .execute .ensures))
+    (c .before .before .before .before .before .before .before .before .if1 .left) (c .if2 .left) _ (c .before .before .before .before .before .before .before .before .before .before .class-of .ensures .0 ∙ ap traced (c .before .before .before .before .before .before .before .before .before .before .before .action-of .ensures)) (c .before .before .before .before .before .before .before .before .before .before .class-of .ensures .1)
 
 pub act-on-spec : {M : Type 1} → statement M
 act-on-spec =
     tie.close
     (tie.spec
     action-of-requires
-    length-of-requires
     class-of-requires
     is-kcall-requires
     returns

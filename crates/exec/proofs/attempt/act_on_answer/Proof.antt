@@ -20,20 +20,14 @@ enum-told c = search needs
 raised-requires : tie.Need-raised-requires
 raised-requires c κs = search needs
 
-enum-told-2 : tie.Need-enum-told-2
-enum-told-2 c = search needs
+enum-known-a-2 : tie.Need-enum-known-a-2
+enum-known-a-2 c = search needs
 
 act-unimplemented-requires : tie.Need-act-unimplemented-requires
 act-unimplemented-requires c κs = search needs
 
-enum-told-3 : tie.Need-enum-told-3
-enum-told-3 c = search needs
-
-act-unimplemented-requires-2 : tie.Need-act-unimplemented-requires-2
-act-unimplemented-requires-2 c κs = search needs
-
-enum-told-4 : tie.Need-enum-told-4
-enum-told-4 c = search needs
+enum-told-2 : tie.Need-enum-told-2
+enum-told-2 c = search needs
 
 raised-requires-2 : tie.Need-raised-requires-2
 raised-requires-2 c κs = search needs
@@ -42,25 +36,31 @@ same-length : tie.Need-same-length
 same-length c = search needs
 
 returns : tie.Need-returns
-returns c = answer-dispatched (c .before .before .before .before .before .before .before .before .before .before .before .args .confined) (cpu (c .before .before .before .before .before .before .before .before .before .before .before .args .r .now) (c .before .before .before .before .before .before .before .before .before .before .before .args .q .now)) (c .before .before .before .before .before .before .before .before .before .before .before .args .a) (journaled (c .before .before .before .before .before .before .before .before .before .before .before .args .m .now) (c .before .before .before .before .before .before .before .before .before .before .before .args .journal .now)) _ _ (ap (λ (x : Decoded). dispatch (cpu (c .before .before .before .before .before .before .before .before .before .before .before .args .r .now) (c .before .before .before .before .before .before .before .before .before .before .before .args .q .now)) x) (c .before .before .before .before .before .before .before .before .a .given .1)) (c .before .before .act-on .ensures)
+returns c =
+    let s = c .before .before .before .before .before .before .before .before .before .before .before .args in
+    answer-dispatched (s .confined) (cpu (s .r .now) (s .q .now)) (s .a) (journaled (s .m .now) (s .journal .now)) _ _
+    (ap (λ (x : Decoded). dispatch (cpu (s .r .now) (s .q .now)) x) (c .before .before .before .before .before .before .before .before .a .given .1)) (c .before .before .act-on .ensures)
 
 returns-2 : tie.Need-returns-2
-returns-2 c = answer-illegal (c .before .before .before .before .args .confined) (c .before .before .before .before .args .r .now) (c .before .before .before .before .args .q .now) (c .before .before .before .before .args .a) (journaled (c .before .before .before .before .args .m .now) (c .before .before .before .before .args .journal .now)) _ (c .raised .ensures) (ap (λ (x : Decoded). dispatch (cpu (c .before .before .before .before .args .r .now) (c .before .before .before .before .args .q .now)) x) (c .before .enum-told .given .1))
+returns-2 c =
+    let s = c .before .before .before .before .args in
+    answer-illegal (s .confined) (s .r .now) (s .q .now) (s .a) (journaled (s .m .now) (s .journal .now)) _ (c .raised .ensures)
+    (ap (λ (x : Decoded). dispatch (cpu (s .r .now) (s .q .now)) x) (c .before .enum-told .given .1))
 
 same-length-2 : tie.Need-same-length-2
 same-length-2 c = search needs
 
 returns-3 : tie.Need-returns-3
-returns-3 c = answer-dispatched (c .before .before .before .before .before .before .before .before .before .before .args .confined) (cpu (c .before .before .before .before .before .before .before .before .before .before .args .r .now) (c .before .before .before .before .before .before .before .before .before .before .args .q .now)) (c .before .before .before .before .before .before .before .before .before .before .args .a) (journaled (c .before .before .before .before .before .before .before .before .before .before .args .m .now) (c .before .before .before .before .before .before .before .before .before .before .args .journal .now)) _ _ (ap (λ (x : Decoded). dispatch (cpu (c .before .before .before .before .before .before .before .before .before .before .args .r .now) (c .before .before .before .before .before .before .before .before .before .before .args .q .now)) x) (c .before .before .before .before .before .before .before .enum-told2 .given .1)) (c .before .before .act-unimplemented .ensures)
-
-same-length-3 : tie.Need-same-length-3
-same-length-3 c = search needs
+returns-3 c =
+    let s = c .before .before .before .before .before .before .before .before .before .before .before .args in
+    answer-dispatched (s .confined) (cpu (s .r .now) (s .q .now)) (s .a) (journaled (s .m .now) (s .journal .now)) _ _
+    (ap (λ (x : Decoded). dispatch (cpu (s .r .now) (s .q .now)) x) (c .before .before .before .before .before .before .before .before .a2 .given .1)) (c .before .before .act-unimplemented .ensures)
 
 returns-4 : tie.Need-returns-4
-returns-4 c = answer-dispatched (c .before .before .before .before .before .before .before .before .before .before .args .confined) (cpu (c .before .before .before .before .before .before .before .before .before .before .args .r .now) (c .before .before .before .before .before .before .before .before .before .before .args .q .now)) (c .before .before .before .before .before .before .before .before .before .before .args .a) (journaled (c .before .before .before .before .before .before .before .before .before .before .args .m .now) (c .before .before .before .before .before .before .before .before .before .before .args .journal .now)) _ _ (ap (λ (x : Decoded). dispatch (cpu (c .before .before .before .before .before .before .before .before .before .before .args .r .now) (c .before .before .before .before .before .before .before .before .before .before .args .q .now)) x) (c .before .before .before .before .before .before .before .enum-told3 .given .1)) (c .before .before .act-unimplemented2 .ensures)
-
-returns-5 : tie.Need-returns-5
-returns-5 c = answer-illegal (c .before .before .before .before .args .confined) (c .before .before .before .before .args .r .now) (c .before .before .before .before .args .q .now) (c .before .before .before .before .args .a) (journaled (c .before .before .before .before .args .m .now) (c .before .before .before .before .args .journal .now)) _ (c .raised2 .ensures) (ap (λ (x : Decoded). dispatch (cpu (c .before .before .before .before .args .r .now) (c .before .before .before .before .args .q .now)) x) (c .before .enum-told4 .given .1))
+returns-4 c =
+    let s = c .before .before .before .before .args in
+    answer-illegal (s .confined) (s .r .now) (s .q .now) (s .a) (journaled (s .m .now) (s .journal .now)) _ (c .raised2 .ensures)
+    (ap (λ (x : Decoded). dispatch (cpu (s .r .now) (s .q .now)) x) (c .before .enum-told2 .given .1))
 
 pub act-on-answer-spec : {M : Type 1} → statement M
 act-on-answer-spec =
@@ -70,17 +70,13 @@ act-on-answer-spec =
     act-on-requires
     enum-told
     raised-requires
-    enum-told-2
+    enum-known-a-2
     act-unimplemented-requires
-    enum-told-3
-    act-unimplemented-requires-2
-    enum-told-4
+    enum-told-2
     raised-requires-2
     same-length
     returns
     returns-2
     same-length-2
     returns-3
-    same-length-3
-    returns-4
-    returns-5)
+    returns-4)

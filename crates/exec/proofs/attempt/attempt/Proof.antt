@@ -30,7 +30,7 @@ same-length-2 : tie.Need-same-length-2
 same-length-2 c = c .before .before .act-on-answer .kept .0 ∙ c .before .before .before .before .before .before .before .before .before .before .before .before .fetch-text .kept .0
 
 returns-2 : tie.Need-returns-2
-returns-2 c = fetch-goes (c .before .before .before .before .before .before .before .before .before .before .before .before .before .before .before .before .before .args .confined) (c .before .before .before .before .before .before .before .before .before .before .before .before .before .before .before .before .before .args .r .now) (c .before .before .before .before .before .before .before .before .before .before .before .before .before .before .before .before .before .args .q .now) _ (journaled (c .before .before .before .before .before .before .before .before .before .before .before .before .before .before .before .before .before .args .m .now) (c .before .before .before .before .before .before .before .before .before .before .before .before .before .before .before .before .before .args .journal .now)) _ (c .before .before .before .before .before .before .before .before .before .before .before .before .fetch-text .ensures _) (c .before .before .before .before .before .before .before .before .if1 .left) _ (c .before .before .before .decode-text .ensures) _ (c .before .before .act-on-answer .ensures)
+returns-2 c = fetch-goes (c .before .before .before .before .before .before .before .before .before .before .before .before .before .before .before .before .before .args .confined) (c .before .before .before .before .before .before .before .before .before .before .before .before .before .before .before .before .before .args .r .now) (c .before .before .before .before .before .before .before .before .before .before .before .before .before .before .before .before .before .args .q .now) _ (journaled (c .before .before .before .before .before .before .before .before .before .before .before .before .before .before .before .before .before .args .m .now) (c .before .before .before .before .before .before .before .before .before .before .before .before .before .before .before .before .before .args .journal .now)) _ (c .before .before .before .before .before .before .before .before .before .before .before .before .fetch-text .ensures _) (c .before .before .before .before .before .before .before .before .if1 .left) (c .before .before .before .decode-text .result) (c .before .before .before .decode-text .ensures) _ (c .before .before .act-on-answer .ensures)
 
 pub attempt-spec : {M : Type 1} → statement M
 attempt-spec =

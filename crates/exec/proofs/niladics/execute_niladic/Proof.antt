@@ -53,25 +53,25 @@ same-length : tie.Need-same-length
 same-length c = search needs
 
 returns : tie.Need-returns
-returns c = is-kret (c .before .before .before .before .before .before .before .before .before .args .r .now) (c .before .before .before .before .before .before .before .before .before .args .q .now) (c .before .before .before .before .before .before .before .before .before .args .o) (journaled (c .before .before .before .before .before .before .before .before .before .args .m .now) (c .before .before .before .before .before .before .before .before .before .args .journal .now)) _ (c .before .before .before .before .before .before .enum-told .given .1) (c .before .before .kret-privileged .ensures _)
+returns c = is-kret (c .before .before .before .before .before .before .before .before .before .args .r .now) (c .before .before .before .before .before .before .before .before .before .args .q .now) (c .before .before .before .before .before .before .before .before .before .args .o) (c .before .before .before .before .before .before .before .before .before .args .n) (journaled (c .before .before .before .before .before .before .before .before .before .args .m .now) (c .before .before .before .before .before .before .before .before .before .args .journal .now)) _ (c .before .before .before .before .before .before .enum-told .given .1) (c .before .before .kret-privileged .ensures _)
 
 same-length-2 : tie.Need-same-length-2
 same-length-2 c = search needs
 
 returns-2 : tie.Need-returns-2
-returns-2 c = is-cret (c .before .before .before .before .before .before .before .before .before .before .args .r .now) (c .before .before .before .before .before .before .before .before .before .before .args .q .now) (c .before .before .before .before .before .before .before .before .before .before .args .o) (journaled (c .before .before .before .before .before .before .before .before .before .before .args .m .now) (c .before .before .before .before .before .before .before .before .before .before .args .journal .now)) _ (c .before .before .before .before .before .before .before .enum-told2 .given .1) (c .before .before .cret-privileged .ensures)
+returns-2 c = is-cret (c .before .before .before .before .before .before .before .before .before .before .args .r .now) (c .before .before .before .before .before .before .before .before .before .before .args .q .now) (c .before .before .before .before .before .before .before .before .before .before .args .o) (c .before .before .before .before .before .before .before .before .before .before .args .n) (journaled (c .before .before .before .before .before .before .before .before .before .before .args .m .now) (c .before .before .before .before .before .before .before .before .before .before .args .journal .now)) _ (c .before .before .before .before .before .before .before .enum-told2 .given .1) (c .before .before .cret-privileged .ensures)
 
 returns-3 : tie.Need-returns-3
-returns-3 c = is-nop (c .before .before .before .before .before .args .r .now) (c .before .before .before .before .before .args .q .now) (c .before .before .before .before .before .args .o) (journaled (c .before .before .before .before .before .args .m .now) (c .before .before .before .before .before .args .journal .now)) (c .before .before .enum-told3 .given .1) _ (c .advance-pc .ensures)
+returns-3 c = is-nop (c .before .before .before .before .before .args .r .now) (c .before .before .before .before .before .args .q .now) (c .before .before .before .before .before .args .o) (c .before .before .before .before .before .args .n) (journaled (c .before .before .before .before .before .args .m .now) (c .before .before .before .before .before .args .journal .now)) (c .before .before .enum-told3 .given .1) _ (c .advance-pc .ensures)
 
 returns-4 : tie.Need-returns-4
-returns-4 c = is-testv (c .before .before .before .before .before .before .before .args .r .now) (c .before .before .before .before .before .before .before .args .q .now) (c .before .before .before .before .before .before .before .args .o) (journaled (c .before .before .before .before .before .before .before .args .m .now) (c .before .before .before .before .before .before .before .args .journal .now)) _ _ (c .advance-pc2 .ensures) (c .before .before .before .before .enum-told4 .given .1) (c .before .before .tested .ensures)
+returns-4 c = is-testv (c .before .before .before .before .before .before .before .args .r .now) (c .before .before .before .before .before .before .before .args .q .now) (c .before .before .before .before .before .before .before .args .o) (c .before .before .before .before .before .before .before .args .n) (journaled (c .before .before .before .before .before .before .before .args .m .now) (c .before .before .before .before .before .before .before .args .journal .now)) _ _ (c .advance-pc2 .ensures) (c .before .before .before .before .enum-told4 .given .1) (c .before .before .tested .ensures)
 
 returns-5 : tie.Need-returns-5
-returns-5 c = is-testc (c .before .before .before .before .before .before .before .args .r .now) (c .before .before .before .before .before .before .before .args .q .now) (c .before .before .before .before .before .before .before .args .o) (journaled (c .before .before .before .before .before .before .before .args .m .now) (c .before .before .before .before .before .before .before .args .journal .now)) _ _ (c .advance-pc3 .ensures) (c .before .before .before .before .enum-told5 .given .1) (c .before .before .tested2 .ensures)
+returns-5 c = is-testc (c .before .before .before .before .before .before .before .args .r .now) (c .before .before .before .before .before .before .before .args .q .now) (c .before .before .before .before .before .before .before .args .o) (c .before .before .before .before .before .before .before .args .n) (journaled (c .before .before .before .before .before .before .before .args .m .now) (c .before .before .before .before .before .before .before .args .journal .now)) _ _ (c .advance-pc3 .ensures) (c .before .before .before .before .enum-told5 .given .1) (c .before .before .tested2 .ensures)
 
 returns-6 : tie.Need-returns-6
-returns-6 c = is-clre (c .before .before .before .before .before .before .before .args .r .now) (c .before .before .before .before .before .before .before .args .q .now) (c .before .before .before .before .before .before .before .args .o) (journaled (c .before .before .before .before .before .before .before .args .m .now) (c .before .before .before .before .before .before .before .args .journal .now)) _ _ (c .advance-pc4 .ensures) (c .before .before .before .before .enum-told6 .given .1) (c .before .before .with-guard .ensures)
+returns-6 c = is-clre (c .before .before .before .before .before .before .before .args .r .now) (c .before .before .before .before .before .before .before .args .q .now) (c .before .before .before .before .before .before .before .args .o) (c .before .before .before .before .before .before .before .args .n) (journaled (c .before .before .before .before .before .before .before .args .m .now) (c .before .before .before .before .before .before .before .args .journal .now)) _ _ (c .advance-pc4 .ensures) (c .before .before .before .before .enum-told6 .given .1) (c .before .before .with-guard .ensures)
 
 pub execute-niladic-spec : {M : Type 1} → statement M
 execute-niladic-spec =

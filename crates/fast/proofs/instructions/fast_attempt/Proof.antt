@@ -30,9 +30,6 @@ returns-2 c = (λ h. not-both h, λ h. (refl, refl, refl))
 plan-at-requires : tie.Need-plan-at-requires
 plan-at-requires c κs = (c .before .before .before .before .before .text-place .ensures (c .before .before .before .before .if1 .left) .4, c .before .before .parcel .ensures, c .before .if2 .left)
 
-length-at-requires : tie.Need-length-at-requires
-length-at-requires c κs = search needs
-
 perform-requires : tie.Need-perform-requires
 perform-requires c κs = search needs
 
@@ -40,7 +37,7 @@ same-length-3 : tie.Need-same-length-3
 same-length-3 c = search needs
 
 returns-3 : tie.Need-returns-3
-returns-3 c = (λ h. performed (c .before .before .before .before .before .before .before .before .before .before .before .before .before .before .before .before .before .before .args .r .now) _ (c .before .before .before .before .before .before .before .before .before .before .before .before .before .before .before .before .before .before .args .q .now) _ (c .before .before .before .before .before .before .before .before .before .before .before .before .before .before .before .before .before .before .args .m .now) _ _ (c .before .before .before .before .before .before .before .before .before .before .before .before .before .text-place .result) refl (c .before .before .before .before .before .before .before .before .before .before .before .before .before .text-place .ensures (c .before .before .before .before .before .before .before .before .before .before .before .before .if1 .left)) (c .before .before .before .before .before .before .before .before .before .before .parcel .result) (c .before .before .before .before .before .before .before .before .before .before .parcel .ensures) (c .before .before .before .before .before .before .before .before .before .if2 .left) (c .before .before .before .before .before .before .before .plan-at .result) (c .before .before .before .before .before .before .before .plan-at .ensures) (c .before .before .before .length-at .result) (c .before .before .before .length-at .ensures) (c .before .before .perform .ensures .0 h), λ h. c .before .before .perform .ensures .1 h)
+returns-3 c = (λ h. performed (c .before .before .before .before .before .before .before .before .before .before .before .before .before .before .before .before .before .args .r .now) _ (c .before .before .before .before .before .before .before .before .before .before .before .before .before .before .before .before .before .args .q .now) _ (c .before .before .before .before .before .before .before .before .before .before .before .before .before .before .before .before .before .args .m .now) _ _ (c .before .before .before .before .before .before .before .before .before .before .before .before .text-place .result) refl (c .before .before .before .before .before .before .before .before .before .before .before .before .text-place .ensures (c .before .before .before .before .before .before .before .before .before .before .before .if1 .left)) (c .before .before .before .before .before .before .before .before .before .parcel .result) (c .before .before .before .before .before .before .before .before .before .parcel .ensures) (c .before .before .before .before .before .before .before .before .if2 .left) (c .before .before .before .before .before .before .plan-at .result) (c .before .before .before .before .before .before .plan-at .ensures) (c .before .before .perform .ensures .0 h), λ h. c .before .before .perform .ensures .1 h)
 
 pub fast-attempt-spec : {M : Type 1} → statement M
 fast-attempt-spec =
@@ -54,7 +51,6 @@ fast-attempt-spec =
     same-length-2
     returns-2
     plan-at-requires
-    length-at-requires
     perform-requires
     same-length-3
     returns-3)

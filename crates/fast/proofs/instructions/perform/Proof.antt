@@ -24,13 +24,13 @@ same-length : tie.Need-same-length
 same-length c = search needs
 
 returns : tie.Need-returns
-returns c = (λ h. two-executed (c .before .before .before .before .before .before .before .before .before .before .args .r .now) _ (c .before .before .before .before .before .before .before .before .before .before .args .q .now) _ (c .before .before .before .before .before .before .before .before .before .before .args .m .now) _ (c .before .before .before .before .before .before .before .before .before .before .args .n) (c .before .before .before .before .before .before .before .before .before .before .args .plan) _ _ _ _ _ _ (c .before .before .before .before .before .before .before .plan .given .1) (c .before .before .fast-two .ensures .0 h), λ h. c .before .before .fast-two .ensures .1 h)
+returns c = (λ h. two-executed (c .before .before .before .before .before .before .before .before .before .before .args .r .now) _ (c .before .before .before .before .before .before .before .before .before .before .args .q .now) _ (c .before .before .before .before .before .before .before .before .before .before .args .m .now) _ (c .before .before .before .before .before .before .before .before .before .before .args .plan) _ _ _ _ _ _ _ (c .before .before .before .before .before .before .before .plan .given .1) (c .before .before .fast-two .ensures .0 h), λ h. c .before .before .fast-two .ensures .1 h)
 
 same-length-2 : tie.Need-same-length-2
 same-length-2 c = search needs
 
 returns-2 : tie.Need-returns-2
-returns-2 c = (λ h. one-executed (c .before .before .before .before .before .before .before .before .args .r .now) _ (c .before .before .before .before .before .before .before .before .args .q .now) _ (c .before .before .before .before .before .before .before .before .args .m .now) _ (c .before .before .before .before .before .before .before .before .args .n) (c .before .before .before .before .before .before .before .before .args .plan) _ _ _ (c .before .before .before .before .before .plan2 .given .1) refl (c .fast-one .ensures .0 h), λ h. (refl, c .fast-one .ensures .1 h .0, c .fast-one .ensures .1 h .1))
+returns-2 c = (λ h. one-executed (c .before .before .before .before .before .before .before .before .args .r .now) _ (c .before .before .before .before .before .before .before .before .args .q .now) _ (c .before .before .before .before .before .before .before .before .args .m .now) _ (c .before .before .before .before .before .before .before .before .args .plan) _ _ _ _ (c .before .before .before .before .before .plan2 .given .1) refl (c .fast-one .ensures .0 h), λ h. (refl, c .fast-one .ensures .1 h .0, c .fast-one .ensures .1 h .1))
 
 returns-3 : tie.Need-returns-3
 returns-3 c = (λ h. not-both h, λ h. (refl, refl, refl))

@@ -9,6 +9,9 @@ enum-known-e c = search needs
 monadic-legal-requires : tie.Need-monadic-legal-requires
 monadic-legal-requires c κs = search needs
 
+wide-length-requires : tie.Need-wide-length-requires
+wide-length-requires c κs = search needs
+
 monadic-operation-requires : tie.Need-monadic-operation-requires
 monadic-operation-requires c κs = search needs
 
@@ -30,6 +33,7 @@ plan-mode-spec =
     (tie.spec
     enum-known-e
     monadic-legal-requires
+    wide-length-requires
     monadic-operation-requires
     returns
     enum-told

@@ -16,11 +16,8 @@ enum-known-i-2 c = search needs
 list-dyadic-requires : tie.Need-list-dyadic-requires
 list-dyadic-requires c κs = search needs
 
-wide-word-requires : tie.Need-wide-word-requires
-wide-word-requires c κs = search needs
-
-prefix-word-requires : tie.Need-prefix-word-requires
-prefix-word-requires c κs = search needs
+prefix-length-requires : tie.Need-prefix-length-requires
+prefix-length-requires c κs = search needs
 
 operand-mode-requires : tie.Need-operand-mode-requires
 operand-mode-requires c κs = search needs
@@ -40,25 +37,25 @@ enum-known-i-3 c = search needs
 list-monadic-requires : tie.Need-list-monadic-requires
 list-monadic-requires c κs = search needs
 
-prefix-word-requires-2 : tie.Need-prefix-word-requires-2
-prefix-word-requires-2 c κs = search needs
+prefix-length-requires-2 : tie.Need-prefix-length-requires-2
+prefix-length-requires-2 c κs = search needs
 
 mode-place-requires : tie.Need-mode-place-requires
 mode-place-requires c κs = search needs
 
 returns : tie.Need-returns
-returns c = block-at _ _ _ (c .before .before .i .given .1) (rw (c .list-short .ensures) refl) refl
+returns c = block-at _ _ _ _ (c .before .before .i .given .1) (rw (c .list-short .ensures) refl) refl
 
 returns-2 : tie.Need-returns-2
 returns-2 c =
-    block-at _ _ _ (c .before .before .before .before .before .before .before .before .i2 .given .1)
-    (rw (c .operand-value2 .ensures, c .before .operand-mode2 .ensures, c .before .before .operand-value .ensures, c .before .before .before .operand-mode .ensures, c .before .before .before .before .prefix-word .ensures, c .before .before .before .before .before .wide-word .ensures, c .before .before .before .before .before .before .list-dyadic .ensures) refl)
+    block-at _ _ _ _ (c .before .before .before .before .before .before .before .i2 .given .1)
+    (rw (c .operand-value2 .ensures, c .before .operand-mode2 .ensures, c .before .before .operand-value .ensures, c .before .before .before .operand-mode .ensures, c .before .before .before .before .prefix-length .ensures, c .before .before .before .before .before .list-dyadic .ensures) refl)
     refl
 
 returns-3 : tie.Need-returns-3
 returns-3 c =
-    block-at _ _ _ (c .before .before .before .before .i3 .given .1)
-    (rw (c .mode-place .ensures, c .before .prefix-word2 .ensures, c .before .before .list-monadic .ensures) refl)
+    block-at _ _ _ _ (c .before .before .before .before .i3 .given .1)
+    (rw (c .mode-place .ensures, c .before .prefix-length2 .ensures, c .before .before .list-monadic .ensures) refl)
     refl
 
 pub block-of-spec : {M : Type 1} → statement M
@@ -69,15 +66,14 @@ block-of-spec =
     list-short-requires
     enum-known-i-2
     list-dyadic-requires
-    wide-word-requires
-    prefix-word-requires
+    prefix-length-requires
     operand-mode-requires
     operand-value-requires
     operand-mode-requires-2
     operand-value-requires-2
     enum-known-i-3
     list-monadic-requires
-    prefix-word-requires-2
+    prefix-length-requires-2
     mode-place-requires
     returns
     returns-2

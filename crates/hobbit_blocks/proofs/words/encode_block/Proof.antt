@@ -3,8 +3,8 @@ use borrow.Author.Needs.{needs}
 use Rattle.hobbit_blocks.proofs.words.encode_block.Statement.{statement}
 use Rattle.hobbit_blocks.proofs.words.encode_block.Tie as tie
 
-array-read-form : tie.Need-array-read-form
-array-read-form c = search needs
+array-read-kind : tie.Need-array-read-kind
+array-read-kind c = search needs
 
 array-read-r : tie.Need-array-read-r
 array-read-r c = search needs
@@ -33,11 +33,17 @@ short-code-requires c κs = search needs
 returns : tie.Need-returns
 returns c = search (needs, in-short)
 
+length-agrees-requires : tie.Need-length-agrees-requires
+length-agrees-requires c κs = search needs
+
 dyadic-code-requires : tie.Need-dyadic-code-requires
 dyadic-code-requires c κs = search needs
 
 returns-2 : tie.Need-returns-2
 returns-2 c = search (needs, in-three)
+
+length-agrees-requires-2 : tie.Need-length-agrees-requires-2
+length-agrees-requires-2 c κs = search needs
 
 dyadic-code-requires-2 : tie.Need-dyadic-code-requires-2
 dyadic-code-requires-2 c κs = search needs
@@ -58,7 +64,7 @@ pub encode-block-spec : {M : Type 1} → statement M
 encode-block-spec =
     tie.close
     (tie.spec
-    array-read-form
+    array-read-kind
     array-read-r
     array-read-w
     array-read-p
@@ -68,8 +74,10 @@ encode-block-spec =
     array-read-y
     short-code-requires
     returns
+    length-agrees-requires
     dyadic-code-requires
     returns-2
+    length-agrees-requires-2
     dyadic-code-requires-2
     returns-3
     monadic-code-requires

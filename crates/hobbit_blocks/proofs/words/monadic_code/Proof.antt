@@ -3,6 +3,9 @@ use borrow.Author.Needs.{needs}
 use Rattle.hobbit_blocks.proofs.words.monadic_code.Statement.{statement}
 use Rattle.hobbit_blocks.proofs.words.monadic_code.Tie as tie
 
+length-agrees-requires : tie.Need-length-agrees-requires
+length-agrees-requires c κs = search needs
+
 monadic-mode-in-requires : tie.Need-monadic-mode-in-requires
 monadic-mode-in-requires c κs = search needs
 
@@ -46,6 +49,7 @@ pub monadic-code-spec : {M : Type 1} → statement M
 monadic-code-spec =
     tie.close
     (tie.spec
+    length-agrees-requires
     monadic-mode-in-requires
     find-monadic-requires
     enum-known-e

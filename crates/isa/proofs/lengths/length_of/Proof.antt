@@ -1,7 +1,7 @@
-use Rattle.encode.proofs.EncodeLaws.{dyadic-sum, monadic-sum, dyadic-length, monadic-length}
+use Rattle.isa.proofs.LengthLaws.{length-sum, dyadic-length, monadic-length}
 use borrow.Author.Needs.{needs}
-use Rattle.encode.proofs.length_of.Statement.{statement}
-use Rattle.encode.proofs.length_of.Tie as tie
+use Rattle.isa.proofs.lengths.length_of.Statement.{statement}
+use Rattle.isa.proofs.lengths.length_of.Tie as tie
 
 enum-told : tie.Need-enum-told
 enum-told c = search needs
@@ -16,16 +16,19 @@ prefix-length-requires : tie.Need-prefix-length-requires
 prefix-length-requires c κs = search needs
 
 add-result : tie.Need-add-result
-add-result c = search (needs, dyadic-sum)
+add-result c = search (needs, length-sum)
 
 enum-known-i-2 : tie.Need-enum-known-i-2
 enum-known-i-2 c = search needs
+
+wide-length-requires-2 : tie.Need-wide-length-requires-2
+wide-length-requires-2 c κs = search needs
 
 prefix-length-requires-2 : tie.Need-prefix-length-requires-2
 prefix-length-requires-2 c κs = search needs
 
 add-result-2 : tie.Need-add-result-2
-add-result-2 c = search (needs, monadic-sum)
+add-result-2 c = search (needs, length-sum)
 
 returns : tie.Need-returns
 returns c = search needs
@@ -46,6 +49,7 @@ length-of-spec =
     prefix-length-requires
     add-result
     enum-known-i-2
+    wide-length-requires-2
     prefix-length-requires-2
     add-result-2
     returns
