@@ -1,4 +1,4 @@
-"""Frames and parcels of the board, for the scripts that write its inputs (tests/steps.py, bench/inputs.py)."""
+"""Frames and parcels of the board, for the scripts that write inputs (tests/steps.py, tests/texts.py, bench/inputs.py)."""
 
 # Registers by their place in Table 1-1 (frame 01), and by their number after a CPU prefix (Table 1-24).
 PLACE = dict(CONFIG=1, FAULT=2, ID=3, ISP=4, MSP=5, PC=6, PSW=7, SHAD=8, SP=9, STB=10, TIMER1=11, TIMER2=12, VB=13)

@@ -2,6 +2,9 @@
 use crate::guard::Guarded;
 use crate::machine::Answer;
 
+/// The interface that the calls below follow, HOBBIT_INTERFACE of the header.
+pub const INTERFACE: u32 = 2;
+
 /// The proved machine: its blocks and its memory.
 pub struct Proved {
     pub registers: [u32; 17],
@@ -25,6 +28,7 @@ mod hobbit {
     }
 
     extern "C" {
+        pub fn hobbit_interface() -> u32;
         pub fn hobbit_get(registers: *const u32, place: u32) -> HobbitWord;
         pub fn hobbit_store(memory: *mut u8, bytes: usize, address: u32, from: *const u8, count: usize) -> u32;
         pub fn hobbit_load(memory: *const u8, bytes: usize, address: u32, to: *mut u8, count: usize) -> u32;
@@ -92,6 +96,11 @@ impl Proved {
 }
 
 #[cfg(linked)]
+pub fn interface() -> u32 {
+    unsafe { hobbit::hobbit_interface() }
+}
+
+#[cfg(linked)]
 pub fn decode(parcels: &[u16], instruction: &mut [u32; 8]) -> u32 {
     unsafe { hobbit::hobbit_decode(parcels.as_ptr(), parcels.len(), instruction.as_mut_ptr()) }
 }
@@ -102,6 +111,11 @@ pub fn encode(instruction: &[u32; 8], length: u32, parcels: &mut [u16; 6]) -> u3
 }
 
 // built without the library: main refuses to compare
+#[cfg(not(linked))]
+pub fn interface() -> u32 {
+    unreachable!()
+}
+
 #[cfg(not(linked))]
 pub fn decode(_: &[u16], _: &mut [u32; 8]) -> u32 {
     unreachable!()

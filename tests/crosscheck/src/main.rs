@@ -2,7 +2,7 @@
 //!   crosscheck [STEPS] [SEED]   compares, 1,000,000 steps by default; exit status 1 on any difference
 //!   crosscheck alone [STEPS] [SEED]   our interpreter alone: what the generator reaches
 //!   crosscheck board            reads frames and prints lines with our interpreter, as the board program does
-//!   crosscheck texts            reads parcels and prints what they decode to, as the program disassemble does
+//!   crosscheck texts            reads parcels and prints what they decode to, as the program test_decoder does
 //!   crosscheck frames [SEED]    prints a random conversation for a board program
 mod board;
 mod compare;
@@ -30,6 +30,10 @@ fn check(arguments: &[String]) -> ExitCode {
     };
     if !link::Proved::LINKED {
         eprintln!("built without libhobbit.a: set HOBBIT_LIB to its folder and build again");
+        return ExitCode::from(2);
+    }
+    if link::interface() != link::INTERFACE {
+        eprintln!("libhobbit.a has interface {}, this check {}", link::interface(), link::INTERFACE);
         return ExitCode::from(2);
     }
     let summary = compare::compare(steps, seed);

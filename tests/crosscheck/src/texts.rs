@@ -42,22 +42,21 @@ fn number(row: usize) -> u32 {
 /// The words of an instruction that the interpreter found.
 fn block(instruction: &Instruction) -> Block {
     let row = number(instruction.row);
-    let prefix = instruction.prefix as u32;
-    let parcels = instruction.length - prefix;
+    let (length, prefix) = (instruction.length, instruction.prefix as u32);
     match instruction.act {
-        Act::Dyadic { source, destination, .. } if parcels == 1 => {
-            [1, row, 0, 0, 0, mode_and_value(source).1, 0, mode_and_value(destination).1]
+        Act::Dyadic { source, destination, .. } if length == 1 => {
+            [1, row, length, 0, 0, mode_and_value(source).1, 0, mode_and_value(destination).1]
         }
-        Act::Monadic { value, .. } if parcels == 1 => [1, row, 0, 0, 0, value, 0, 0],
-        Act::Niladic(_) => [1, row, 0, 0, 0, 0, 0, 0],
+        Act::Monadic { value, .. } if length == 1 => [1, row, length, 0, 0, value, 0, 0],
+        Act::Niladic(_) => [1, row, length, 0, 0, 0, 0, 0],
         Act::Dyadic { source, destination, .. } => {
             let ((from, value), (to, other)) = (mode_and_value(source), mode_and_value(destination));
-            [2, row, parcels, prefix, from, value, to, other]
+            [2, row, length, prefix, from, value, to, other]
         }
         Act::Monadic { monadic, mode, value } => {
             // the modes of Table 1-23 come after the word modes of Table 1-21
             let first = if flows(monadic) { 4 } else { 0 };
-            [3, row, 0, prefix, first + mode as u32 - 0xC, value, 0, 0]
+            [3, row, length, prefix, first + mode as u32 - 0xC, value, 0, 0]
         }
     }
 }
@@ -183,7 +182,23 @@ impl Summary {
                 self.compare_coded(&block, length, ours);
             }
             self.encoded += 1;
+            self.compare_lengths(&block, whole as u32);
         }
+    }
+
+    /// The same words with another length, or with the prefix put before or taken away: they disagree, and have no code at
+    /// that length nor at their own, but a dyadic may be one of the other form.
+    fn compare_lengths(&mut self, block: &Block, whole: u32) {
+        for wrong in (0..8).filter(|length| *length != whole) {
+            let other = with(block, 2, wrong);
+            self.compare_coded(&other, whole, Err(NO_CODE));
+            if block[0] == 2 && [3, 5].contains(&wrong.wrapping_sub(block[3])) {
+                self.compare_block(&other, wrong);
+            } else {
+                self.compare_coded(&other, wrong, Err(NO_CODE));
+            }
+        }
+        self.compare_coded(&with(block, 3, 1 - block[3]), whole, Err(NO_CODE));
     }
 
     /// A block that need not name an instruction is refused, or gives parcels that decode to it.
@@ -208,6 +223,12 @@ impl Summary {
     }
 }
 
+fn with(block: &Block, place: usize, word: u32) -> Block {
+    let mut other = *block;
+    other[place] = word;
+    other
+}
+
 /// An opcode's parcel, or a subcode's, and now and then one with operand bits.
 fn row_of_one_parcel(random: &mut Random) -> u32 {
     let base = match random.below(8) {
@@ -218,12 +239,16 @@ fn row_of_one_parcel(random: &mut Random) -> u32 {
     base + random.chance(5) as u32 * random.below(1024)
 }
 
-/// Words of a block near those of an instruction, and now and then any.
+/// Words of a block near those of an instruction, and now and then any; and the length to encode at.
 fn random_block(random: &mut Random) -> (Block, u32) {
-    let form = random.below(5);
-    let wide = if form == 2 { random.pick(&[3, 5]) } else { 0 };
-    let prefix = random.below(2) * (form != 1) as u32;
-    let modes = [0, 0].map(|_: u32| match form {
+    let kind = random.below(5);
+    let prefix = random.below(2) * (kind != 1) as u32;
+    let own = match kind {
+        1 => 1,
+        2 => random.pick(&[3, 5]) + prefix,
+        _ => 3 + prefix,
+    };
+    let modes = [0, 0].map(|_: u32| match kind {
         2 if prefix == 1 => random.pick(&[0xC, 0xD, 0xE, 0xF, REGISTER]),
         2 => random.below(18),
         3 => random.below(9),
@@ -234,31 +259,38 @@ fn random_block(random: &mut Random) -> (Block, u32) {
         1 => parcel(random) as i16 as u32,
         _ => random.below(64) * 4,
     });
-    let row = match form {
+    let row = match kind {
         1 => row_of_one_parcel(random),
         2 => random.below(66),
         _ => random.below(17),
     };
-    let mut block = [form, row, wide, prefix, modes[0], values[0], modes[1], values[1]];
-    if form == 3 {
+    // now and then a length that the other words do not have: without the prefix, one more, or any
+    let length = match random.below(24) {
+        0 => own - prefix,
+        1 => own + 1,
+        2 => random.below(8),
+        _ => own,
+    };
+    let mut block = [kind, row, length, prefix, modes[0], values[0], modes[1], values[1]];
+    if kind == 3 {
         block[6..].fill(0);
     }
     // offsets in quad-words, ENTER's filled with ones, and no destination
-    if form == 1 && random.chance(30) {
+    if kind == 1 && random.chance(30) {
         (block[5], block[7]) = (random.pick(&[0, 0xFFFF_F000]) + random.below(16) * 16, 0);
     }
     if random.chance(20) {
         block[random.below(8) as usize] = random.pick(&[1, 2, 16, 39, 256, u32::MAX]);
     }
-    let length = match form {
-        1 => 1,
-        2 => wide + prefix,
-        _ => 3 + prefix,
+    let named = match random.below(20) {
+        0 => random.word() >> random.below(32),
+        1..8 => own,
+        _ => length,
     };
-    (block, if random.chance(5) { random.word() >> random.below(32) } else { length })
+    (block, named)
 }
 
-/// What a line of parcels decodes to, as the program disassemble prints it; `-` is no parcel.
+/// What a line of parcels decodes to, as the program test_decoder prints it; `-` is no parcel.
 fn told(line: &str) -> Option<String> {
     let digits = line.as_bytes().chunks(4).filter(|_| line != "-");
     let parcels = digits.map(|four| u16::from_str_radix(std::str::from_utf8(four).ok()?, 16).ok());
