@@ -17,6 +17,8 @@ int main(void)
     /* ADD 5, R0; ADD 5, R0; KCALL 4 */
     static const uint8_t rule[] = {0x50, 0xA0, 0x50, 0xA0, 0x00, 0x01};
 
+    if (hobbit_interface() != HOBBIT_INTERFACE)
+        return 1;
     hobbit_start(registers, cache);
     hobbit_store(memory, sizeof memory, 0x8000, segment, sizeof segment);
     hobbit_store(memory, sizeof memory, 0x1000, rule, sizeof rule);

@@ -9,6 +9,7 @@ struct HobbitAnswer {
 
 #[link(name = "hobbit", kind = "static")]
 unsafe extern "C" {
+    fn hobbit_interface() -> u32;
     fn hobbit_start(registers: *mut u32, cache: *mut u32);
     fn hobbit_set(registers: *mut u32, place: u32, value: u32) -> u32;
     fn hobbit_run(
@@ -21,6 +22,9 @@ unsafe extern "C" {
         level: u32,
     ) -> HobbitAnswer;
 }
+
+/// The interface that the declarations above follow, HOBBIT_INTERFACE of the header.
+const INTERFACE: u32 = 2;
 
 /// Places of Table 1-1.
 const PC: u32 = 6;
@@ -62,6 +66,7 @@ impl Machine {
 }
 
 fn main() {
+    assert_eq!(unsafe { hobbit_interface() }, INTERFACE);
     let mut m = Machine::new(65536);
     // One nonpaged segment of sixteen pages at 0: valid, writable, for users.
     m.memory[0x8000..0x8004].copy_from_slice(&[0x00, 0x00, 0xF0, 0x0F]);

@@ -25,8 +25,9 @@
 #include <stdint.h>
 
 /* The number of this interface; hobbit_interface answers the library's own, so that a caller can compare the two. It grows
- * with each change after which a caller may have to change. */
-enum { HOBBIT_INTERFACE = 1 };
+ * with each change after which a caller may have to change. What changed since 1: word 2 of an instruction is its length,
+ * prefix counted, for every kind; it was a dyadic's form, and 0 for the others. */
+enum { HOBBIT_INTERFACE = 2 };
 
 uint32_t hobbit_interface(void);
 
@@ -66,17 +67,18 @@ HobbitAnswer hobbit_run(uint8_t *memory, size_t bytes, uint32_t registers[17], u
                         uint32_t budget, uint32_t level);
 
 /* ---- Decoding and encoding: an instruction is eight words.
- *   0  form: HOBBIT_ONE_PARCEL, HOBBIT_DYADIC (two operands) or HOBBIT_MONADIC (one operand of 32 bits)
+ *   0  kind: HOBBIT_ONE_PARCEL, HOBBIT_DYADIC (two operands) or HOBBIT_MONADIC (one operand of 32 bits)
  *   1  row, by its number in the encodings lists: HOBBIT_SHORT_.., HOBBIT_DYADIC_.., HOBBIT_MONADIC_..
- *   2  parcels of a dyadic without its prefix, 3 or 5
+ *   2  length in parcels, prefix counted: 1 for one parcel, 3 to 6 for a dyadic, 3 or 4 for a monadic
  *   3  1 if there is a CPU prefix, which one parcel never has, else 0
  *   4  source mode of a dyadic, HOBBIT_MODE_..; mode of a monadic, HOBBIT_OPERAND_..
  *   5  source value, or the register's number; the operand of a monadic
  *   6  destination mode of a dyadic, HOBBIT_MODE_..
  *   7  destination value, or the register's number
- * A word that a form has no use for is 0. Values are those that the instruction works with: fields of one parcel scaled and
- * extended, 16-bit immediates and offsets sign extended, 16-bit absolute addresses as they stand. The length in parcels,
- * prefix counted, is 1 for one parcel, word 2 + word 3 for a dyadic and 3 + word 3 for a monadic. */
+ * A word that a kind has no use for is 0. Values are those that the instruction works with: fields of one parcel scaled and
+ * extended, 16-bit immediates and offsets sign extended, 16-bit absolute addresses as they stand. The length is word 2; the
+ * form of a dyadic, three or five parcels, is word 2 less word 3. A block whose words disagree names no instruction (5): one
+ * parcel with a prefix or a length other than 1, a dyadic whose form is not 3 or 5, a monadic not of 3 + word 3 parcels. */
 enum { HOBBIT_ONE_PARCEL = 1, HOBBIT_DYADIC = 2, HOBBIT_MONADIC = 3 };
 
 /* Rows of one parcel: the parcel with its operand bits 0, which are the low ten, eight or none. */
@@ -144,8 +146,8 @@ enum { HOBBIT_ILLEGAL = 0x103, HOBBIT_TRAPPED = 0x108, HOBBIT_UNIMPLEMENTED = 0x
  * HOBBIT_UNIMPLEMENTED, and the words as they were. Parcels after the instruction do not count. */
 uint32_t hobbit_decode(const uint16_t *parcels, size_t count, uint32_t instruction[8]);
 
-/* The parcels of an instruction at a length in parcels, prefix counted, the rest of the six 0: 0; or 5 and the parcels as
- * they were. */
+/* The parcels of an instruction at the named length, which has to be word 2, the rest of the six 0: 0; or 5 and the parcels
+ * as they were. */
 uint32_t hobbit_encode(const uint32_t instruction[8], uint32_t length, uint16_t parcels[6]);
 
 #endif
