@@ -11,6 +11,7 @@ use Rattle.word.proofs.CaseLaws.{by-test}
 use Rattle.memory.specs.Answers.{answerOf}
 use Rattle.memory.proofs.AnswerLaws.{answer-low, answer-high}
 use Rattle.isa.specs.declared.Text.{Text}
+use Rattle.isa.specs.Lengths.{following}
 use Rattle.isa.specs.Decode.{textOf, cpuPrefix}
 use Rattle.word.specs.Sums.{plusOf}
 use Rattle.access_spec.specs.Access.{fetch, Response, response}
@@ -20,7 +21,6 @@ use Rattle.machine.specs.Registers.{pc}
 use Rattle.machine.specs.Status.{Cpu, reg, regime}
 use Rattle.datapath.specs.declared.text.OperandParcels.{OperandParcels}
 use Rattle.datapath.specs.Parts.{Out, ok, stop, onward, _>>=_, done}
-use Rattle.isa.specs.Lengths.{following}
 use Rattle.datapath.specs.Text.{fetchParcels, fetchAfter, fetchPrefixed, fetchText}
 use Rattle.datapath.specs.Code.{fetchTwo, joinedOut, listed, wordsFetched, fetchStopped, operandsOut, textOut}
 use Rattle.datapath.proofs.BindLaws.{bind, parcel-fetched}

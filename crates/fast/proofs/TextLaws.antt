@@ -20,8 +20,8 @@ use Rattle.access.specs.Followed.{regimeFor}
 use Rattle.access.specs.EffectFree.{effectFreePlace, EffectFree}
 use Rattle.access.proofs.EffectFreeLaws.{fetch-effect-free, effect-free-beside, place-effect-free}
 use Rattle.datapath.specs.Parts.{done, parcelRequest}
-use Rattle.isa.specs.Lengths.{following}
 use Rattle.datapath.specs.Text.{fetchParcel, fetchParcels, fetchAfter, fetchText}
+use Rattle.isa.specs.Lengths.{following}
 use Rattle.isa.specs.Decode.{decodeShort, decodeWide, decodeBare, decodeOf, cpuPrefix, textOf}
 use Rattle.isa.specs.declared.Wide.the-variants.{Three, Five}
 use Rattle.decode.specs.Forms.{formOf, afterOf}

@@ -6,13 +6,13 @@ use mathlib.Core.Bool.{true, false}
 use mathlib.Core.List.{List, [], _∷_}
 use Rattle.isa.specs.declared.Instruction.{Instruction}
 use Rattle.isa.specs.declared.Text.{Text}
+use Rattle.isa.specs.Lengths.{following}
 use Rattle.isa.specs.Decode.{textOf}
 use Rattle.memory.specs.Bytes.{Memory, number}
 use Rattle.word.specs.Fields.{bitOf}
 use Rattle.machine.specs.Registers.{Bank, word, psw, sp, msp, nmiTaken, stackHeld}
 use Rattle.machine.specs.Status.{Cpu}
 use Rattle.machine.specs.Bits.{traceInstructionBit, traceBlockBit}
-use Rattle.isa.specs.Lengths.{following}
 use Rattle.exec_spec.specs.Execute.{normal, executeNormal, execute}
 use Rattle.step_spec.specs.Events.{none, dueOf}
 use Rattle.step_spec.specs.Step.{toInstruction, fetchInstruction, holdsStack}

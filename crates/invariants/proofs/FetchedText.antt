@@ -11,12 +11,12 @@ use Rattle.isa.specs.Carried.{Carried}
 use Rattle.isa.proofs.Carried.{carried-length}
 use Rattle.access_spec.proofs.BoundedLaws.{Any, within-bounded, bounded-result}
 use Rattle.datapath.specs.Text.{fetchText}
-use Rattle.invariants.specs.FetchedText.{Whole, FetchedText}
+use Rattle.invariants.specs.FetchedText.{AsCarried, FetchedText}
 use Rattle.invariants.proofs.RuleLaws.{AnswersAllowed, ResultsAllowed}
 use Rattle.invariants.proofs.TextLaws.{TextFits, fetch-text}
 use Rattle.invariants.proofs.CountLaws.{anything-goes}
 
-as-carried : (t : Text) (k : ℕ) (a : Decoded) → t .count ≡ k → Carried k (t .count) a → Whole t a
+as-carried : (t : Text) (k : ℕ) (a : Decoded) → t .count ≡ k → Carried k (t .count) a → AsCarried t a
 as-carried t k (Is i n) e h = e ∙ sym (h .1)
 as-carried t k Illegal e h = tt
 as-carried t k (Unimplemented v) e h = tt

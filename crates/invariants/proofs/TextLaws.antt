@@ -11,6 +11,7 @@ use lib.ListN.{length, getD}
 use lib.Pow.{pow-pos}
 use Rattle.word.specs.Sums.{plusOf}
 use Rattle.isa.specs.declared.Text.{Text}
+use Rattle.isa.specs.Lengths.{following}
 use Rattle.isa.specs.Decode.{cpuPrefix, textOf}
 use Rattle.isa.specs.Carried.{calledFor}
 use Rattle.memory.specs.Answers.{Answer, good, raised}
@@ -18,7 +19,6 @@ use Rattle.access_spec.specs.Access.{fetch}
 use Rattle.machine.specs.Registers.{pc}
 use Rattle.machine.specs.Status.{Cpu, reg, regime}
 use Rattle.datapath.specs.Parts.{parcelRequest, parcelReplied}
-use Rattle.isa.specs.Lengths.{following}
 use Rattle.datapath.specs.Text.{fetchParcel, fetchParcels, fetchAfter, fetchPrefixed, fetchText}
 use Rattle.invariants.proofs.RuleLaws.{Rules, AnswersAllowed, ResultsAllowed, Part, bind, more, gives, either}
 

@@ -11,11 +11,11 @@ use Rattle.machine.specs.Status.{Cpu}
 use Rattle.datapath.specs.Parts.{ok}
 use Rattle.datapath.specs.Text.{fetchText}
 
-abbrev pub Whole : Text → Decoded → Type 0
-Whole t (Is i n) = t .count ≡ n
-Whole t Illegal = Unit
-Whole t (Unimplemented v) = Unit
-Whole t Truncated = ⊥
+abbrev pub AsCarried : Text → Decoded → Type 0
+AsCarried t (Is i n) = t .count ≡ n
+AsCarried t Illegal = Unit
+AsCarried t (Unimplemented v) = Unit
+AsCarried t Truncated = ⊥
 
 abbrev pub FetchedText : Type 1
-FetchedText = (W : Type 0) (h : Handler W) (c : Cpu) (w : W) (t : Text) → interpret h (fetchText c) w .out ≡ ok t → Whole t (decodeOf t)
+FetchedText = (W : Type 0) (h : Handler W) (c : Cpu) (w : W) (t : Text) → interpret h (fetchText c) w .out ≡ ok t → AsCarried t (decodeOf t)

@@ -105,7 +105,7 @@ wide-carried pre n p a b c d m e =
         either (Carried (wideLength Three + prefixLength pre) m) (eqb (p / 256 % 64) 0) _ _
         (monadic-carried m pre p (joined a b) h) (dyadic-carried m Three pre p a b h)
 
--- a long form's parcels, after one or two
+-- a long form's parcels and k before them: its first parcel is the last of k + 1, the others follow
 wide-called : (k p : ℕ) → cond (ltb p 0xC000) (wideLength Three) (wideLength Five) + k ≡ suc k + cond (ltb p 0xC000) (wideLength Three - 1) (wideLength Five - 1)
 wide-called k p = by-test (ltb p 0xC000) (λ f. rw f (omega arith)) (λ f. rw f (omega arith))
 

@@ -13,9 +13,9 @@ use Rattle.isa.specs.Lengths.{lengthOf}
 abbrev pub illegalNumber : ℕ
 illegalNumber = 0x3
 
--- "21 unimplemented": the event
-abbrev pub unimplementedNumber : ℕ
-unimplementedNumber = 0x21
+-- "21 unimplemented": the event, and the code of a confined run that stops there
+abbrev pub unimplementedCode : ℕ
+unimplementedCode = 0x21
 
 -- refusal 5, "no code": no encoding at the named length carries the instruction
 abbrev pub noEncoding : ℕ
@@ -43,7 +43,7 @@ pub data DecodedNumbers : Type 0 where
 abbrev pub decodedNumbers : Decoded → DecodedNumbers
 decodedNumbers (Is i n) = decodedTo i n
 decodedNumbers Illegal = decodedException illegalNumber
-decodedNumbers (Unimplemented v) = decodedEvent unimplementedNumber v
+decodedNumbers (Unimplemented v) = decodedEvent unimplementedCode v
 decodedNumbers Truncated = decodedRefusal truncatedText
 
 -- an instruction carries its length, what is none carries none

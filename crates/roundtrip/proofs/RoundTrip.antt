@@ -1,6 +1,6 @@
 -- The decoder and the encoder are each other's inverse, and hold to the length.
 -- Assumes nothing.
-use Prim.Native.Nat.{ℕ, _+_, _-_, _/_, _%_, _<_, _≤_}
+use Prim.Native.Nat.{ℕ, _-_, _/_, _%_, _<_, _≤_}
 use mathlib.Core.Path.{_≡_, refl, sym, ap, subst, _∙_}
 use mathlib.Core.Bool.{true, false, cond, _&&_}
 use mathlib.Core.List.{List, _++_}
@@ -16,16 +16,15 @@ use Rattle.isa.specs.declared.ShortEntry.{ShortEntry}
 use Rattle.isa.specs.declared.ShortEntry.the-variants as entry
 use Rattle.isa.specs.declared.Instruction.{Instruction}
 use Rattle.isa.specs.declared.Instruction.the-variants as instruction
-use Rattle.isa.specs.declared.Wide.{Wide}
-use Rattle.isa.specs.declared.Wide.the-variants.{Three, Five}
 use Rattle.isa.specs.declared.Decoded.the-variants.{Is, Illegal, Truncated}
 use Rattle.isa.specs.declared.Encoded.the-variants as encoded
-use Rattle.isa.specs.Lengths.{wideLength, prefixLength, lengthOf}
+use Rattle.isa.specs.Lengths.{wideLength, lengthOf}
 use Rattle.isa.specs.Answers.{withLength}
 use Rattle.isa.specs.Tables.{shortOf}
 use Rattle.isa.specs.Decode.{shortEntry, shortInstruction, shortAnswer, decodeShort, decodeWide, decodePrefixed, decodeBare, decodeOf, cpuPrefix, textOf}
 use Rattle.isa.specs.Encodings.{shortListed}
 use Rattle.isa.specs.Encode.{text1, text3, text5, withPrefix, shortParcel, carries, encodeShort, encodeAny, encodeOf}
+use Rattle.isa.proofs.LengthLaws.{wide-positive}
 use Rattle.isa.proofs.Carried.{own-length}
 use Rattle.roundtrip.proofs.ShortLaws as short
 use Rattle.roundtrip.specs.Unused.{unusedZero, parcelsOf, firstParcels}
@@ -86,11 +85,7 @@ disagreeing i n h = simp (ne-eqb n (lengthOf i) h)
 
 positive : (i : Instruction) → 1 ≤ lengthOf i
 positive (instruction.Short i) = omega arith
-positive (instruction.Dyadic i) = go (i .wide)
-  where
-    go : (w : Wide) → 1 ≤ wideLength w + prefixLength (i .prefix)
-    go Three = omega arith
-    go Five = omega arith
+positive (instruction.Dyadic i) = omega (arith, wide-positive (i .wide) (wideLength (i .wide)) refl)
 positive (instruction.Monadic i) = omega arith
 
 -- ---- parcels that decode to an instruction, with unused bits zero, encode to themselves at their length

@@ -4,6 +4,7 @@ use Prim.Native.Nat.{ℕ, zero, suc}
 use mathlib.Core.Bool.{Bool, true, false, cond, not, _&&_}
 use lib.ListN.{length}
 use lib.Dec.{leb}
+use Rattle.isa.specs.Answers.{unimplementedCode}
 use Rattle.memory.specs.Bytes.{Memory, wholePages, memorySize}
 use Rattle.access_spec.specs.Access.{Response}
 use Rattle.access_spec.specs.Program.{Program, ret, interpret, plain}
@@ -63,9 +64,6 @@ pub data ConfinedActed : Type 0 where
 
 abbrev pub kcallCode : ℕ
 kcallCode = 0x20
-
-abbrev pub unimplementedCode : ℕ
-unimplementedCode = 0x21
 
 abbrev pub isKcall : Normal → Bool
 isKcall (twoOperands w t s d) = false

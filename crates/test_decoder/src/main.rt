@@ -14,7 +14,7 @@ struct Line {
 }
 
 // The length of an instruction in parcels, its prefix counted: at most six, which is not known of a lent block.
-fn length_of(block: [u32; 8]) -> usize
+fn length_in(block: [u32; 8]) -> usize
     ensures { λ r. ⌜ r ≤ 6 ⌝ }
 {
     let n = block[2] as usize;
@@ -87,7 +87,7 @@ fn decoded(parcels: [u16; 6], n: usize) -> [u32; 8] {
 
 // Whether the given parcels begin with the instruction's own, and these are decoded to it.
 fn agrees(block: [u32; 8], given: [u16; 6], count: usize) -> bool {
-    let n = length_of(block);
+    let n = length_in(block);
     let mut own = [0u16; 6];
     let refusal = encode_from(&block, n as u32, &mut own);
     (refusal == 0)

@@ -17,13 +17,12 @@ use Rattle.isa.specs.declared.Instruction.{Instruction}
 use Rattle.isa.specs.declared.Instruction.the-variants.{Short, Dyadic, Monadic}
 use Rattle.isa.specs.declared.Decoded.{Decoded}
 use Rattle.isa.specs.declared.Decoded.the-variants as answer
-use Rattle.isa.specs.Answers.{DecodedNumbers, decodedTo, decodedException, decodedEvent, decodedRefusal, decodedNumbers}
+use Rattle.isa.specs.Answers.{unimplementedCode, DecodedNumbers, decodedTo, decodedException, decodedEvent, decodedRefusal, decodedNumbers}
 use Rattle.isa.specs.Answers.{EncodedNumbers, encodedTo, encodedRefusal, encodedNumbers}
 use Rattle.isa.specs.Encodings.{dyadicListed}
 use Rattle.isa.specs.Decode.{decodeShort, decodeDyadic, decodeMonadic, decodeThree, decodeWide, decodePrefixed, decodeBare, decodeOf, textOf}
 use Rattle.isa.specs.Encode.{modeCode, encodeShort, encodeDyadic, encodeMonadic, encodeOf}
 use Rattle.memory.specs.Exceptions.{illegalInstruction}
-use Rattle.run_spec.specs.Run.{unimplementedCode}
 use Rattle.fast_decode.specs.declared.Plan.{Plan}
 use Rattle.fast_decode.specs.declared.Plan.the-variants as plan
 use Rattle.fast_decode.specs.Plans.{planOf, planLength}
