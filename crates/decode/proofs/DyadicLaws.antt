@@ -28,7 +28,7 @@ use Rattle.isa.specs.Decode.{extended, operandValue, operandFound, modeEntry, d
 use Rattle.decode.specs.Forms.{absoluteOf}
 
 -- the value of a 16-bit operand: its mode says whether it is extended
-by-absolute : (m : Mode) (x : ℕ) → extended m x ≡ cond (absoluteOf m) x (signExtendOf 16 x)
+pub by-absolute : (m : Mode) (x : ℕ) → extended m x ≡ cond (absoluteOf m) x (signExtendOf 16 x)
 by-absolute AbsoluteByte x = refl
 by-absolute AbsoluteUbyte x = refl
 by-absolute AbsoluteHalf x = refl

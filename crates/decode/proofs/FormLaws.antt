@@ -10,8 +10,9 @@ use Rattle.isa.specs.declared.Wide.{Wide}
 use Rattle.isa.specs.declared.Wide.the-variants.{Three}
 use Rattle.isa.specs.declared.Decoded.{Decoded}
 use Rattle.isa.specs.declared.Decoded.the-variants.{Truncated}
+use Rattle.isa.specs.Lengths.{formOf, afterOf}
 use Rattle.isa.specs.Decode.{joined, decodeDyadic, decodeMonadic, decodeThree, decodeWide}
-use Rattle.decode.specs.Forms.{formOf, afterOf, monadicForm, firstOf, secondOf}
+use Rattle.decode.specs.Forms.{monadicForm, firstOf, secondOf}
 
 -- the operand fields of a known form
 pub monadic-three : (w : Wide) (p k : ℕ) → w ≡ Three → k ≡ p / 256 % 64 → eqb k 0 ≡ monadicForm w p

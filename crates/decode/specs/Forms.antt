@@ -11,7 +11,6 @@ use Rattle.isa.specs.declared.Wide.the-variants.{Three, Five}
 use Rattle.isa.specs.declared.Text.{Text}
 use Rattle.isa.specs.declared.Decoded.{Decoded}
 use Rattle.isa.specs.declared.Decoded.the-variants.{Illegal, Truncated}
-use Rattle.isa.specs.Lengths.{wideLength}
 use Rattle.isa.specs.Decode.{joined, decodeShort, decodeWide}
 
 -- modes whose 16 bits are not extended
@@ -32,13 +31,6 @@ absoluteOf AbsoluteWord = true
 absoluteOf StackWord = false
 absoluteOf IndirectWord = false
 absoluteOf Immediate = false
-
--- the form of a parcel whose top bit is 1, and how many parcels it calls for after itself
-abbrev pub formOf : ℕ → Wide
-formOf p = cond (ltb p 0xC000) Three Five
-
-abbrev pub afterOf : Wide → ℕ
-afterOf w = wideLength w - 1
 
 -- only in three parcels is opcode 0 the monadics'
 abbrev pub monadicForm : Wide → ℕ → Bool

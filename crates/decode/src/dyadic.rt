@@ -1,5 +1,8 @@
 // Dyadics of three and five parcels: 10 or 11, a six-bit opcode, two four-bit modes, two operand fields.
+use crate::fields::last_bits;
 use crate::fields::low;
+use crate::fields::mode_bits;
+use crate::fields::opcode_bits;
 use decode_tables::legal::legal;
 use decode_tables::modes::find_general;
 use decode_tables::modes::find_prefixed;
@@ -17,7 +20,6 @@ use isa::Rule;
 use isa::UNIMPLEMENTED_VECTOR;
 use isa::Wide;
 use isa::lengths::with_length;
-use word::fields::field;
 use word::widths::extend;
 ghost use mathlib.Core.Path.{_≡_};
 ghost use Rattle.isa.specs.declared.DyadicEntry.the-variants as entry;
@@ -146,12 +148,12 @@ fn of_operands(
     }
 }
 
-// The opcode is in bits 13:8, the source's mode in 7:4, the destination's in 3:0; x and y are the operand fields.
+// At either length: the opcode, the source's mode, the destination's; x and y are the operand fields.
 pub(crate) fn decode_dyadic(wide: Wide, prefix: bool, p: u16, x: u32, y: u32) -> Decoded
     ensures { λ r. ⌜ r ≡ decodeDyadic wide prefix p x y ⌝ }
 {
-    let e = find_dyadic(field(p as u32, 8, 6));
-    let s = find_operand(wide, prefix, field(p as u32, 4, 4), x);
-    let d = find_operand(wide, prefix, low(p as u32, 4), y);
+    let e = find_dyadic(opcode_bits(p as u32));
+    let s = find_operand(wide, prefix, mode_bits(p as u32), x);
+    let d = find_operand(wide, prefix, last_bits(p as u32), y);
     of_operands(e, wide, prefix, s, d)
 }

@@ -13,6 +13,28 @@ pub fn low(x: u32, count: u32) -> u32
     field(x, 0, count)
 }
 
+// Fields of the first parcel of three or five, at the same places in both; of the parcel as a word, which is made of it once.
+// Bits 13:8: the opcode.
+pub fn opcode_bits(p: u32) -> u32
+    ensures { λ r. ⌜ r ≡ p / 256 % 64 ⌝ }
+{
+    field(p, 8, 6)
+}
+
+// Bits 7:4: the source's mode, or a monadic's.
+pub fn mode_bits(p: u32) -> u32
+    ensures { λ r. ⌜ r ≡ p / 16 % 16 ⌝ }
+{
+    field(p, 4, 4)
+}
+
+// Bits 3:0: the destination's mode, or a monadic's subcode.
+pub fn last_bits(p: u32) -> u32
+    ensures { λ r. ⌜ r ≡ p % 16 ⌝ }
+{
+    low(p, 4)
+}
+
 // The five bits before the low five.
 pub fn middle(p: u16) -> u32
     ensures { λ r. ⌜ r ≡ p / 32 % 32 ⌝ }

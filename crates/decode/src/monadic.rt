@@ -1,5 +1,6 @@
 // Monadics of three parcels: opcode 0, the mode in bits 7:4, the subcode in 3:0, an operand of 32 bits.
-use crate::fields::low;
+use crate::fields::last_bits;
+use crate::fields::mode_bits;
 use decode_tables::legal::monadic_legal;
 use decode_tables::modes::find_monadic_mode;
 use decode_tables::wide::find_monadic;
@@ -13,7 +14,6 @@ use isa::MonadicRow;
 use isa::MonadicRule;
 use isa::UNIMPLEMENTED_VECTOR;
 use isa::lengths::with_length;
-use word::fields::field;
 ghost use mathlib.Core.Path.{_≡_};
 ghost use mathlib.Core.Bool.{cond};
 ghost use lib.Dec.{ltb};
@@ -77,9 +77,9 @@ pub(crate) fn decode_monadic(prefix: bool, p: u16, value: u32) -> Decoded
     ensures { λ r. ⌜ r ≡ decodeMonadic prefix p value ⌝ }
 {
     of_entry(
-        find_monadic(low(p as u32, 4)),
+        find_monadic(last_bits(p as u32)),
         prefix,
-        field(p as u32, 4, 4),
+        mode_bits(p as u32),
         value,
     )
 }

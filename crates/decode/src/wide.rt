@@ -1,15 +1,16 @@
 // Three and five parcels: which of the two the top bits of the first say.
 use crate::dyadic::decode_dyadic;
+use crate::fields::opcode_bits;
 use crate::monadic::decode_monadic;
 use isa::Decoded;
 use isa::Wide;
 use isa::lengths::wide_length;
-use word::fields::field;
 use word::fields::form_bits;
 use word::fields::joined;
 ghost use mathlib.Core.Path.{_≡_};
+ghost use Rattle.isa.specs.Lengths.{formOf, afterOf};
 ghost use Rattle.isa.specs.Decode.{decodeWide};
-ghost use Rattle.decode.specs.Forms.{formOf, afterOf, monadicForm, firstOf, secondOf};
+ghost use Rattle.decode.specs.Forms.{monadicForm, firstOf, secondOf};
 
 // The form of a parcel whose top bit is 1.
 pub fn find_form(p: u16) -> Wide
@@ -34,7 +35,7 @@ pub fn is_monadic(wide: Wide, p: u16) -> bool
     ensures { λ r. ⌜ r ≡ monadicForm wide p ⌝ }
 {
     match wide {
-        Wide::Three => field(p as u32, 8, 6) == 0,
+        Wide::Three => opcode_bits(p as u32) == 0,
         Wide::Five => false,
     }
 }

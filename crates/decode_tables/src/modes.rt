@@ -33,7 +33,7 @@ pub fn find_general(code: u32) -> ModeEntry
     }
 }
 
-// Table 1-22, after a CPU prefix.
+// Table 1-22, after a CPU prefix: the registers, and the word modes of Table 1-21.
 pub fn find_prefixed(code: u32) -> ModeEntry
     ensures { λ r. ⌜ r ≡ prefixedOf code ⌝ }
 {
@@ -41,10 +41,7 @@ pub fn find_prefixed(code: u32) -> ModeEntry
         0x0..=0x6 => ModeEntry::Unlisted,
         0x7 => ModeEntry::Register,
         0x8..=0xB => ModeEntry::Unlisted,
-        0xC => ModeEntry::General(Mode::AbsoluteWord),
-        0xD => ModeEntry::General(Mode::StackWord),
-        0xE => ModeEntry::General(Mode::IndirectWord),
-        0xF => ModeEntry::General(Mode::Immediate),
+        0xC..=0xF => find_general(code),
         _ => ModeEntry::Unlisted,
     }
 }

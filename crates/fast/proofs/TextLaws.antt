@@ -21,10 +21,10 @@ use Rattle.access.specs.EffectFree.{effectFreePlace, EffectFree}
 use Rattle.access.proofs.EffectFreeLaws.{fetch-effect-free, effect-free-beside, place-effect-free}
 use Rattle.datapath.specs.Parts.{done, parcelRequest}
 use Rattle.datapath.specs.Text.{fetchParcel, fetchParcels, fetchAfter, fetchText}
-use Rattle.isa.specs.Lengths.{following}
+use Rattle.isa.specs.Lengths.{formOf, afterOf, following}
 use Rattle.isa.specs.Decode.{decodeShort, decodeWide, decodeBare, decodeOf, cpuPrefix, textOf}
+use Rattle.isa.specs.declared.Wide.{Wide}
 use Rattle.isa.specs.declared.Wide.the-variants.{Three, Five}
-use Rattle.decode.specs.Forms.{formOf, afterOf}
 use Rattle.fast_decode.specs.declared.Plan.{Plan}
 use Rattle.fast_decode.specs.Plans.{planOf}
 use Rattle.fast_dyadic.specs.Fast.{gives}
@@ -79,7 +79,7 @@ module _ (b : Bank) (q : Cache) (m : Memory) (a k : ℕ) (ea : a ≡ word b pc) 
   unfolding fetchAfter
   after-effect-free p =
       gives-then (fetchParcels (cpu b q) (plusOf (word b pc) 2) (following p)) _ m m m (parcelsFrom m (k + 2) (following p)) (textOf (p ∷ parcelsFrom m (k + 2) (following p)))
-      (rw (← ea, near) (go (ltb p 0x8000) (ltb p 0xC000)))
+      (rw (← ea, near) (go (ltb p 0x8000) (formOf p)))
       (gives-done (done (textOf (p ∷ parcelsFrom m (k + 2) (following p)))) (textOf (p ∷ parcelsFrom m (k + 2) (following p))) refl m)
     where
       near : plusOf a 2 ≡ a + 2
@@ -88,10 +88,10 @@ module _ (b : Bank) (q : Cache) (m : Memory) (a k : ℕ) (ea : a ≡ word b pc) 
       next : EffectFree (regime b) Fetch (a + 2) m (k + 2)
       next = effect-free-beside (regime b) Fetch a 2 m k (omega (arith, f)) h
 
-      go : (u v : Bool) → gives (fetchParcels (cpu b q) (a + 2) (cond u 0 (cond v 2 4))) m (parcelsFrom m (k + 2) (cond u 0 (cond v 2 4))) m
-      go true v = gives-done (fetchParcels (cpu b q) (a + 2) 0) [] (none b q m (a + 2)) m
-      go false true = more-effect-free b q m 1 (a + 2) (k + 2) next (omega (arith, e)) (omega (arith, l, e, f)) (omega (arith, f, e)) (omega (arith, i))
-      go false false = more-effect-free b q m 3 (a + 2) (k + 2) next (omega (arith, e)) (omega (arith, l, e, f)) (omega (arith, f, e)) (omega (arith, i))
+      go : (u : Bool) (w : Wide) → gives (fetchParcels (cpu b q) (a + 2) (cond u 0 (afterOf w))) m (parcelsFrom m (k + 2) (cond u 0 (afterOf w))) m
+      go true w = gives-done (fetchParcels (cpu b q) (a + 2) 0) [] (none b q m (a + 2)) m
+      go false Three = more-effect-free b q m 1 (a + 2) (k + 2) next (omega (arith, e)) (omega (arith, l, e, f)) (omega (arith, f, e)) (omega (arith, i))
+      go false Five = more-effect-free b q m 3 (a + 2) (k + 2) next (omega (arith, e)) (omega (arith, l, e, f)) (omega (arith, f, e)) (omega (arith, i))
 
   pub text-effect-free : eqb (parcelAt m k) cpuPrefix ≡ false → gives (fetchText (cpu b q)) m (textAt m k) m
   unfolding fetchText
@@ -115,8 +115,8 @@ wide-bare p ps h = let n : length (p ∷ ps) - 1 ≡ length ps = omega arith in 
 
 -- parcels that the form does not call for say nothing
 wide-cut : (m : Memory) (p k : ℕ) (u : Bool) → ltb p 0xC000 ≡ u
-    → decodeWide false (length (parcelsFrom m k (cond u 2 4))) p (getD (parcelsFrom m k (cond u 2 4)) 0 0) (getD (parcelsFrom m k (cond u 2 4)) 1 0) (getD (parcelsFrom m k (cond u 2 4)) 2 0) (getD (parcelsFrom m k (cond u 2 4)) 3 0)
-    ≡ decodeWide false (cond u 2 4) p (parcelAt m k) (parcelAt m (k + 2)) (parcelAt m (k + 2 + 2)) (parcelAt m (k + 2 + 2 + 2))
+    → decodeWide false (length (parcelsFrom m k (afterOf (cond u Three Five)))) p (getD (parcelsFrom m k (afterOf (cond u Three Five))) 0 0) (getD (parcelsFrom m k (afterOf (cond u Three Five))) 1 0) (getD (parcelsFrom m k (afterOf (cond u Three Five))) 2 0) (getD (parcelsFrom m k (afterOf (cond u Three Five))) 3 0)
+    ≡ decodeWide false (afterOf (cond u Three Five)) p (parcelAt m k) (parcelAt m (k + 2)) (parcelAt m (k + 2 + 2)) (parcelAt m (k + 2 + 2 + 2))
 unfolding decodeWide
 wide-cut m p k true e = rw e refl
 wide-cut m p k false e = rw e refl
@@ -129,11 +129,11 @@ module _ (m : Memory) (k p : ℕ) (ep : p ≡ parcelAt m k) (unprefixed : p ≡ 
   short-decoded h =
       ap decodeShort ep ∙ sym (short-bare (parcelAt m k) (parcelsFrom m (k + 2) (following (parcelAt m k))) (rw (← ep) h)) ∙ sym (bare (parcelAt m k) (parcelsFrom m (k + 2) (following (parcelAt m k))) plain)
 
-  wide-decoded : 0x8000 ≤ p → (n x y z w : ℕ) → n ≡ cond (ltb p 0xC000) 2 4 → x ≡ parcelAt m (k + 2) → y ≡ parcelAt m (k + 4) → z ≡ parcelAt m (k + 6) → w ≡ parcelAt m (k + 8)
+  wide-decoded : 0x8000 ≤ p → (n x y z w : ℕ) → n ≡ afterOf (formOf p) → x ≡ parcelAt m (k + 2) → y ≡ parcelAt m (k + 4) → z ≡ parcelAt m (k + 6) → w ≡ parcelAt m (k + 8)
       → decodeWide false n p x y z w ≡ decodeOf (textAt m k)
   wide-decoded h n x y z w en ex ey ez ew =
       rw (en, ex, ey ∙ at 4 (k + 2 + 2) (omega arith), ez ∙ at 6 (k + 2 + 2 + 2) (omega arith), ew ∙ at 8 (k + 2 + 2 + 2 + 2) (omega arith))
-      (subst (λ j. decodeWide false (cond (ltb j 0xC000) 2 4) j (parcelAt m (k + 2)) (parcelAt m (k + 2 + 2)) (parcelAt m (k + 2 + 2 + 2)) (parcelAt m (k + 2 + 2 + 2 + 2)) ≡ decodeOf (textAt m k)) (sym ep)
+      (subst (λ j. decodeWide false (afterOf (formOf j)) j (parcelAt m (k + 2)) (parcelAt m (k + 2 + 2)) (parcelAt m (k + 2 + 2 + 2)) (parcelAt m (k + 2 + 2 + 2 + 2)) ≡ decodeOf (textAt m k)) (sym ep)
       (sym (bare (parcelAt m k) (parcelsFrom m (k + 2) (following (parcelAt m k))) plain ∙ wide-bare (parcelAt m k) (parcelsFrom m (k + 2) (following (parcelAt m k))) high ∙ called)))
     where
       at : (i j : ℕ) → k + i ≡ j → parcelAt m (k + i) ≡ parcelAt m j
@@ -143,18 +143,14 @@ module _ (m : Memory) (k p : ℕ) (ep : p ≡ parcelAt m k) (unprefixed : p ≡ 
       high = rw (← ep) h
 
       called : decodeWide false (length (parcelsFrom m (k + 2) (following (parcelAt m k)))) (parcelAt m k) (getD (parcelsFrom m (k + 2) (following (parcelAt m k))) 0 0) (getD (parcelsFrom m (k + 2) (following (parcelAt m k))) 1 0) (getD (parcelsFrom m (k + 2) (following (parcelAt m k))) 2 0) (getD (parcelsFrom m (k + 2) (following (parcelAt m k))) 3 0)
-          ≡ decodeWide false (cond (ltb (parcelAt m k) 0xC000) 2 4) (parcelAt m k) (parcelAt m (k + 2)) (parcelAt m (k + 2 + 2)) (parcelAt m (k + 2 + 2 + 2)) (parcelAt m (k + 2 + 2 + 2 + 2))
+          ≡ decodeWide false (afterOf (formOf (parcelAt m k))) (parcelAt m k) (parcelAt m (k + 2)) (parcelAt m (k + 2 + 2)) (parcelAt m (k + 2 + 2 + 2)) (parcelAt m (k + 2 + 2 + 2 + 2))
       called = rw (le-ltb (parcelAt m k) 0x8000 high) (wide-cut m (parcelAt m k) (k + 2) (ltb (parcelAt m k) 0xC000) refl)
 
   -- ---- and the plan for it
-
-  after-is : (u : Bool) → afterOf (cond u Three Five) ≡ cond u 2 4
-  after-is true = refl
-  after-is false = refl
 
   pub short-planned : (x : Plan) → p < 0x8000 → x ≡ planOf (decodeShort p) → x ≡ planOf (decodeOf (textAt m k))
   short-planned x h g = g ∙ ap planOf (short-decoded h)
 
   pub wide-planned : (x : Plan) → 0x8000 ≤ p → (c d e f : ℕ) → c ≡ parcelAt m (k + 2) → d ≡ parcelAt m (k + 4) → e ≡ parcelAt m (k + 6) → f ≡ parcelAt m (k + 8)
       → x ≡ planOf (decodeWide false (afterOf (formOf p)) p c d e f) → x ≡ planOf (decodeOf (textAt m k))
-  wide-planned x h c d e f ec ed ee ef g = g ∙ ap planOf (wide-decoded h (afterOf (formOf p)) c d e f (after-is (ltb p 0xC000)) ec ed ee ef)
+  wide-planned x h c d e f ec ed ee ef g = g ∙ ap planOf (wide-decoded h (afterOf (formOf p)) c d e f refl ec ed ee ef)

@@ -34,13 +34,13 @@ use Rattle.isa.specs.declared.Rule.{Rule}
 use Rattle.isa.specs.declared.Rule.the-variants.{OneRegister}
 use Rattle.isa.specs.declared.Wide.{Wide}
 use Rattle.isa.specs.declared.Wide.the-variants.{Three, Five}
-use Rattle.isa.specs.Lengths.{shortLength, wideLength}
+use Rattle.isa.specs.Lengths.{shortLength, wideLength, formOf, afterOf}
 use Rattle.isa.specs.Answers.{unimplementedVector, withLength}
 use Rattle.isa.specs.Fields.{sourceField, destinationField, fieldValue}
 use Rattle.isa.specs.Tables.{shortOf, dyadicOf, generalOf, monadicOf, monadicModeOf}
 use Rattle.isa.specs.Legal.{legalOf, monadicLegalOf}
 use Rattle.isa.specs.Decode.{shortEntry, shortAnswer, decodeShort, operandValue, operandFound, dyadicAnswer, bothFound, decodeDyadic, monadicFound, monadicAnswer, decodeMonadic, joined, decodeWide}
-use Rattle.decode.specs.Forms.{formOf, afterOf, monadicForm, firstOf, secondOf}
+use Rattle.decode.specs.Forms.{monadicForm, firstOf, secondOf}
 use Rattle.decode.proofs.ShortLaws.{short-is}
 use Rattle.decode.proofs.DyadicLaws.{dyadic-is}
 use Rattle.decode.proofs.MonadicLaws.{monadic-is}

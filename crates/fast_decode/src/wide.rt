@@ -1,7 +1,9 @@
 // Three and five parcels.
 use crate::Plan;
 use decode::dyadic::value;
-use decode::fields::low;
+use decode::fields::last_bits;
+use decode::fields::mode_bits;
+use decode::fields::opcode_bits;
 use decode::wide::find_form;
 use decode::wide::first;
 use decode::wide::is_monadic;
@@ -26,14 +28,13 @@ use isa::Operand;
 use isa::Rule;
 use isa::Wide;
 use isa::lengths::wide_length;
-use word::fields::field;
 use word::fields::joined;
 ghost use mathlib.Core.Path.{_≡_};
 ghost use mathlib.Core.Bool.{false};
 ghost use Rattle.isa.specs.declared.DyadicEntry.the-variants as entry;
 ghost use Rattle.isa.specs.declared.Operand.the-variants as operand;
+ghost use Rattle.isa.specs.Lengths.{formOf, afterOf};
 ghost use Rattle.isa.specs.Decode.{operandFound, dyadicAnswer, bothFound, decodeDyadic, monadicFound, decodeMonadic, decodeWide};
-ghost use Rattle.decode.specs.Forms.{formOf, afterOf};
 ghost use Rattle.fast_decode.specs.Plans.{planOf};
 
 fn plan_operands(wide: Wide, row: DyadicRow, rule: Rule, a: Mode, v: u32, b: Mode, w: u32) -> Plan
@@ -83,9 +84,9 @@ fn plan_entry(e: DyadicEntry, wide: Wide, s: ModeEntry, d: ModeEntry, x: u32, y:
 fn plan_dyadic(wide: Wide, p: u16, x: u32, y: u32) -> Plan
     ensures { λ z. ⌜ z ≡ planOf (decodeDyadic wide false p x y) ⌝ }
 {
-    let e = find_dyadic(field(p as u32, 8, 6));
-    let s = find_general(field(p as u32, 4, 4));
-    let d = find_general(low(p as u32, 4));
+    let e = find_dyadic(opcode_bits(p as u32));
+    let s = find_general(mode_bits(p as u32));
+    let d = find_general(last_bits(p as u32));
     plan_entry(e, wide, s, d, x, y)
 }
 
@@ -106,9 +107,9 @@ fn plan_mode(row: MonadicRow, rule: MonadicRule, e: MonadicModeEntry, v: u32) ->
 fn plan_monadic(p: u16, v: u32) -> Plan
     ensures { λ z. ⌜ z ≡ planOf (decodeMonadic false p v) ⌝ }
 {
-    match find_monadic(low(p as u32, 4)) {
+    match find_monadic(last_bits(p as u32)) {
         MonadicEntry::Row(row, rule) => {
-            plan_mode(row, rule, find_monadic_mode(rule, field(p as u32, 4, 4)), v)
+            plan_mode(row, rule, find_monadic_mode(rule, mode_bits(p as u32)), v)
         }
         MonadicEntry::Unimplemented => Plan::Other,
         MonadicEntry::Unlisted => Plan::Other,

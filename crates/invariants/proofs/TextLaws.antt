@@ -11,7 +11,9 @@ use lib.ListN.{length, getD}
 use lib.Pow.{pow-pos}
 use Rattle.word.specs.Sums.{plusOf}
 use Rattle.isa.specs.declared.Text.{Text}
-use Rattle.isa.specs.Lengths.{following}
+use Rattle.isa.specs.declared.Wide.{Wide}
+use Rattle.isa.specs.declared.Wide.the-variants.{Three, Five}
+use Rattle.isa.specs.Lengths.{formOf, afterOf, following}
 use Rattle.isa.specs.Decode.{cpuPrefix, textOf}
 use Rattle.isa.specs.Carried.{calledFor}
 use Rattle.memory.specs.Answers.{Answer, good, raised}
@@ -70,12 +72,12 @@ module _ (k : Rules) where
       (bind (fetch-parcel c a h) λ p g. bind (fetch-parcels c (plusOf a 2) n h) λ ps gs. gives {n = 0} ((g, gs .0), omega (arith, gs .1)))
 
   fetch-following : (c : Cpu) (a p : ℕ) → k .Holds c → Part k (λ ps. Parcels ps × (length ps ≡ following p)) 4 (fetchParcels c a (following p))
-  fetch-following c a p h = more 4 (go (ltb p 0x8000) (ltb p 0xC000)) (fetch-parcels c a (following p) h)
+  fetch-following c a p h = more 4 (go (ltb p 0x8000) (formOf p)) (fetch-parcels c a (following p) h)
     where
-      go : (x y : Bool) → cond x 0 (cond y 2 4) ≤ 4
-      go true y = omega arith
-      go false true = omega arith
-      go false false = omega arith
+      go : (x : Bool) (w : Wide) → cond x 0 (afterOf w) ≤ 4
+      go true w = omega arith
+      go false Three = omega arith
+      go false Five = omega arith
 
   pub fetch-text : (c : Cpu) → k .Holds c → Part k TextFits 6 (fetchText c)
   unfolding fetchText fetchPrefixed fetchAfter

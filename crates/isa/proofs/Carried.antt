@@ -27,12 +27,13 @@ use Rattle.isa.specs.declared.MonadicEntry.the-variants as single
 use Rattle.isa.specs.declared.Instruction.{Instruction}
 use Rattle.isa.specs.declared.Text.{Text}
 use Rattle.isa.specs.declared.Decoded.the-variants.{Is, Illegal, Unimplemented}
-use Rattle.isa.specs.Lengths.{shortLength, wideLength, prefixLength, following, lengthOf}
+use Rattle.isa.specs.Lengths.{shortLength, wideLength, prefixLength, formOf, afterOf, following, lengthOf}
 use Rattle.isa.specs.Answers.{unimplementedVector}
 use Rattle.isa.specs.Carried.{Carried, CarriedLength, calledFor}
 use Rattle.isa.specs.Tables.{shortOf, dyadicOf, monadicOf, monadicModeOf}
 use Rattle.isa.specs.Legal.{legalOf, monadicLegalOf}
 use Rattle.isa.specs.Decode.{shortEntry, shortAnswer, decodeShort, modeEntry, operandFound, dyadicAnswer, bothFound, decodeDyadic, monadicFound, monadicAnswer, decodeMonadic, joined, decodeThree, decodeWide, cpuPrefix, decodePrefixed, decodeBare, decodeOf}
+use Rattle.isa.proofs.LengthLaws.{wide-positive}
 
 -- c parcels are there, which is enough in the three parts
 module _ (c : ℕ) where
@@ -84,7 +85,7 @@ module _ (c : ℕ) where
 
 -- of a parcel whose top bit is 1, n parcels follow
 wide-carried : (pre : Bool) (n p a b c d m : ℕ) → m ≡ n + 1 + prefixLength pre
-    → Carried (cond (ltb p 0xC000) (wideLength Three) (wideLength Five) + prefixLength pre) m (decodeWide pre n p a b c d)
+    → Carried (wideLength (formOf p) + prefixLength pre) m (decodeWide pre n p a b c d)
 unfolding decodeWide decodeThree
 wide-carried pre n p a b c d m e =
     by-test (ltb p 0xC000)
@@ -106,8 +107,8 @@ wide-carried pre n p a b c d m e =
         (monadic-carried m pre p (joined a b) h) (dyadic-carried m Three pre p a b h)
 
 -- a long form's parcels and k before them: its first parcel is the last of k + 1, the others follow
-wide-called : (k p : ℕ) → cond (ltb p 0xC000) (wideLength Three) (wideLength Five) + k ≡ suc k + cond (ltb p 0xC000) (wideLength Three - 1) (wideLength Five - 1)
-wide-called k p = by-test (ltb p 0xC000) (λ f. rw f (omega arith)) (λ f. rw f (omega arith))
+wide-called : (k : ℕ) (w : Wide) → wideLength w + k ≡ suc k + afterOf w
+wide-called k w = omega (arith, wide-positive w (wideLength w) refl)
 
 module _ (t : Text) where
   prefixed-carried : Carried (prefixLength true + shortLength + following (t .p1)) (t .count) (decodePrefixed t)
@@ -122,7 +123,7 @@ module _ (t : Text) where
       (λ f.
       rw f
       (subst (λ (k : ℕ). Carried k (t .count) (decodeWide true (t .count - 2) (t .p1) (t .p2) (t .p3) (t .p4) (t .p5)))
-      (wide-called 1 (t .p1))
+      (wide-called 1 (formOf (t .p1)))
       (wide-carried true (t .count - 2) (t .p1) (t .p2) (t .p3) (t .p4) (t .p5) (t .count) (omega (arith, ltb-false (t .count) 2 e)))))))
 
   bare-carried : 1 ≤ t .count → Carried (shortLength + following (t .p0)) (t .count) (decodeBare t)
@@ -133,7 +134,7 @@ module _ (t : Text) where
       (λ f.
       rw f
       (subst (λ (k : ℕ). Carried k (t .count) (decodeWide false (t .count - 1) (t .p0) (t .p1) (t .p2) (t .p3) (t .p4)))
-      (wide-called 0 (t .p0))
+      (wide-called 0 (formOf (t .p0)))
       (wide-carried false (t .count - 1) (t .p0) (t .p1) (t .p2) (t .p3) (t .p4) (t .count) (omega (arith, h)))))
 
   called-one : 1 ≤ calledFor t

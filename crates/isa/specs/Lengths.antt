@@ -24,6 +24,14 @@ lengthOf (instruction.Short i) = shortLength
 lengthOf (instruction.Dyadic i) = wideLength (i .wide) + prefixLength (i .prefix)
 lengthOf (instruction.Monadic i) = wideLength Three + prefixLength (i .prefix)
 
--- how many parcels follow one that begins an instruction, by its top bits: 0, 10 or 11
+-- the form of a parcel that begins an instruction, if its top bit is 1: 10 is three, 11 five
+abbrev pub formOf : ℕ → Wide
+formOf p = cond (ltb p 0xC000) Three Five
+
+-- how many parcels a form calls for after its first
+abbrev pub afterOf : Wide → ℕ
+afterOf w = wideLength w - 1
+
+-- how many follow a parcel that begins an instruction, by its top bits: 0, 10 or 11
 abbrev pub following : ℕ → ℕ
-following p = cond (ltb p 0x8000) (shortLength - 1) (cond (ltb p 0xC000) (wideLength Three - 1) (wideLength Five - 1))
+following p = cond (ltb p 0x8000) (shortLength - 1) (afterOf (formOf p))

@@ -3,8 +3,8 @@ use borrow.Author.Needs.{needs}
 use Rattle.fast_decode.proofs.wide.plan_monadic.Statement.{statement}
 use Rattle.fast_decode.proofs.wide.plan_monadic.Tie as tie
 
-low-requires : tie.Need-low-requires
-low-requires c κs = search needs
+last-bits-requires : tie.Need-last-bits-requires
+last-bits-requires c κs = search needs
 
 find-monadic-requires : tie.Need-find-monadic-requires
 find-monadic-requires c κs = search needs
@@ -12,8 +12,8 @@ find-monadic-requires c κs = search needs
 enum-known-row : tie.Need-enum-known-row
 enum-known-row c = search needs
 
-field-requires : tie.Need-field-requires
-field-requires c κs = search needs
+mode-bits-requires : tie.Need-mode-bits-requires
+mode-bits-requires c κs = search needs
 
 find-monadic-mode-requires : tie.Need-find-monadic-mode-requires
 find-monadic-mode-requires c κs = search needs
@@ -40,10 +40,10 @@ pub plan-monadic-spec : {M : Type 1} → statement M
 plan-monadic-spec =
     tie.close
     (tie.spec
-    low-requires
+    last-bits-requires
     find-monadic-requires
     enum-known-row
-    field-requires
+    mode-bits-requires
     find-monadic-mode-requires
     plan-mode-requires
     enum-told
