@@ -1,4 +1,4 @@
-mod EveryLaws
+pub mod EveryLaws
 pub mod RowLaws
 pub mod ShortLaws
 pub mod LengthLaws
