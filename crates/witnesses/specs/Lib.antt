@@ -1,5 +1,6 @@
 pub mod Boards
 pub mod Decoding
+pub mod FormBits
 pub mod Machines
 pub mod Steps
 pub mod Events
