@@ -143,7 +143,11 @@ enum { HOBBIT_ILLEGAL = 0x103, HOBBIT_TRAPPED = 0x108, HOBBIT_UNIMPLEMENTED = 0x
 /* Parcels are numbers of 16 bits, not bytes of memory: there a parcel is two bytes, the most significant first.
  *
  * The instruction that count parcels begin with: 0 and its words; or 6, HOBBIT_ILLEGAL, HOBBIT_TRAPPED or
- * HOBBIT_UNIMPLEMENTED, and the words as they were. Parcels after the instruction do not count. */
+ * HOBBIT_UNIMPLEMENTED, and the words as they were. Parcels after the instruction do not count.
+ *
+ * Bit 14 of the first parcel, or of the one after a prefix, chooses three parcels or five: it changes the length and the
+ * operands' values in the words and nothing else, nor whether there is an instruction, but for opcode 0 (bits 13:8), which with
+ * three parcels is the rows of one operand. */
 uint32_t hobbit_decode(const uint16_t *parcels, size_t count, uint32_t instruction[8]);
 
 /* The parcels of an instruction at the named length, which has to be word 2, the rest of the six 0: 0; or 5 and the parcels
