@@ -7,7 +7,7 @@ ghost use Prim.Native.Nat.{_%_, _/_, _^_};
 ghost use Rattle.isa.specs.Fields.{sourceField, destinationField, fieldValue};
 
 // The low bits of x, as many as the low five bits of count say.
-pub fn low(x: u32, count: u32) -> u32
+pub(crate) fn low(x: u32, count: u32) -> u32
     ensures { λ r. ⌜ r ≡ x % 2 ^ (count % 32) ⌝ }
 {
     field(x, 0, count)
@@ -36,7 +36,7 @@ pub fn last_bits(p: u32) -> u32
 }
 
 // The five bits before the low five.
-pub fn middle(p: u16) -> u32
+fn middle(p: u16) -> u32
     ensures { λ r. ⌜ r ≡ p / 32 % 32 ⌝ }
 {
     field(p as u32, 5, 5)

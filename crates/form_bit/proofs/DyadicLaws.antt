@@ -56,9 +56,10 @@ legal-by-modes AnyTwo s d = refl
 legal-by-modes Address s d = rw (of-mode wordInMemory s, register-mode d) refl
 legal-by-modes Multiple s d = rw (of-mode (λ m. wordInMemory m || constant m) s, of-mode (λ m. wordInMemory m || doubleWord m) d) refl
 
-pub shape-of-choice : (c : Bool) (x y : Decoded) → shapeOf (cond c x y) ≡ cond c (shapeOf x) (shapeOf y)
-shape-of-choice true x y = refl
-shape-of-choice false x y = refl
+-- what is made of a choice is chosen from what is made of its two sides
+pub of-choice : {A : Type 0} (f : Decoded → A) (c : Bool) (x y : Decoded) → f (cond c x y) ≡ cond c (f x) (f y)
+of-choice f true x y = refl
+of-choice f false x y = refl
 
 -- the shape by the modes of both operands
 abbrev shapeWith : DyadicEntry → Bool → ModeEntry → ModeEntry → Shape
@@ -67,8 +68,8 @@ shapeWith entry.Unimplemented pre a b = cond (legalModes OneRegister a b) (unimp
 shapeWith entry.Unlisted pre a b = illegalShape
 
 answer-shape : (e : DyadicEntry) (w : Wide) (pre : Bool) (s d : Operand) → shapeOf (dyadicAnswer e w pre s d) ≡ shapeWith e pre (modeOf s) (modeOf d)
-answer-shape (entry.Row r u) w pre s d = rw (legal-by-modes u s d) (shape-of-choice (legalModes u (modeOf s) (modeOf d)) _ _)
-answer-shape entry.Unimplemented w pre s d = rw (legal-by-modes OneRegister s d) (shape-of-choice (legalModes OneRegister (modeOf s) (modeOf d)) _ _)
+answer-shape (entry.Row r u) w pre s d = rw (legal-by-modes u s d) (of-choice shapeOf (legalModes u (modeOf s) (modeOf d)) _ _)
+answer-shape entry.Unimplemented w pre s d = rw (legal-by-modes OneRegister s d) (of-choice shapeOf (legalModes OneRegister (modeOf s) (modeOf d)) _ _)
 answer-shape entry.Unlisted w pre s d = refl
 
 -- the shape by what both modes' numbers name: no form, no field
@@ -111,13 +112,9 @@ found-extended (mode.General m) x y e = rw e refl
 found-extended mode.Register x y e = rw e refl
 found-extended mode.Unlisted x y e = refl
 
-five-of-choice : (c : Bool) (x y : Decoded) → atFive (cond c x y) ≡ cond c (atFive x) (atFive y)
-five-of-choice true x y = refl
-five-of-choice false x y = refl
-
 answer-five : (e : DyadicEntry) (pre : Bool) (s d : Operand) → dyadicAnswer e Five pre s d ≡ atFive (dyadicAnswer e Three pre s d)
-answer-five (entry.Row r u) pre s d = sym (five-of-choice (legalOf u s d) _ _)
-answer-five entry.Unimplemented pre s d = sym (five-of-choice (legalOf OneRegister s d) _ _)
+answer-five (entry.Row r u) pre s d = sym (of-choice atFive (legalOf u s d) _ _)
+answer-five entry.Unimplemented pre s d = sym (of-choice atFive (legalOf OneRegister s d) _ _)
 answer-five entry.Unlisted pre s d = refl
 
 both-five : (e : DyadicEntry) (pre : Bool) (f g : OperandFound) → bothFound e Five pre f g ≡ atFive (bothFound e Three pre f g)

@@ -22,7 +22,7 @@ use Rattle.isa.specs.Decode.{monadicFound, monadicAnswer, decodeMonadic, decode
 use Rattle.roundtrip.proofs.EveryLaws.{every, holds}
 use Rattle.form_bit.specs.Shapes.{Shape, shortShape, dyadicShape, monadicShape, illegalShape, unimplementedShape, truncatedShape, shapeOf}
 use Rattle.form_bit.specs.SetApart.{isSetApart, bySign}
-use Rattle.form_bit.proofs.DyadicLaws.{SameBits, shapeAt, shape-of-choice, dyadic-shape}
+use Rattle.form_bit.proofs.DyadicLaws.{of-choice, SameBits, shapeAt, dyadic-shape}
 
 -- ---- of an operand's value the sign alone counts
 
@@ -45,7 +45,7 @@ legal-by-sign rule.Enter m v = rw (sign-of (negative v)) refl
 found-shape : (r : MonadicRow) (u : MonadicRule) (pre : Bool) (e : MonadicModeEntry) (v : ℕ)
     → shapeOf (monadicFound r u pre e v) ≡ shapeOf (monadicFound r u pre e (signed (negative v)))
 found-shape r u pre (place.Is m) v =
-    rw (legal-by-sign u m v, shape-of-choice (monadicLegalOf u m (signed (negative v))) _ _, shape-of-choice (monadicLegalOf u m (signed (negative v))) _ _) refl
+    rw (legal-by-sign u m v, of-choice shapeOf (monadicLegalOf u m (signed (negative v))) _ _, of-choice shapeOf (monadicLegalOf u m (signed (negative v))) _ _) refl
 found-shape r u pre place.Unlisted v = refl
 
 answer-shape : (e : MonadicEntry) (pre : Bool) (k v : ℕ) → shapeOf (monadicAnswer e pre k v) ≡ shapeOf (monadicAnswer e pre k (signed (negative v)))
