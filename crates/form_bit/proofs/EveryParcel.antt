@@ -22,6 +22,7 @@ use Rattle.form_bit.specs.FormBit.{isPrefixed, formText, Paired}
 use Rattle.form_bit.specs.EveryParcel.{EveryParcel}
 use Rattle.form_bit.proofs.TextLaws.{following-three, following-five}
 use Rattle.form_bit.proofs.SetApartLaws.{set-apart-below}
+use Rattle.form_bit.proofs.FormBit.{set-apart}
 
 -- a parcel and four after it, of which n are called for, after a prefix or without
 abbrev sample : Bool → ℕ → ℕ → ℕ → Text
@@ -104,10 +105,15 @@ every-parcel =
                 };
           };
       eachListed = λ pre q e.
+          let l : q < 0x4000 = omega (arith, set-apart-below pre q e) in
           record {
             three = sampleThree pre q (signField q);
             five = sampleFive pre q (signField q);
-            texts = sample-paired pre q (signField q) (omega (arith, set-apart-below pre q e));
-            sign = rw (form-three pre q (signField q)) (sign-told pre q);
+            texts = sample-paired pre q (signField q) l;
+            differ =
+                set-apart pre q (sampleThree pre q (signField q)) (sampleFive pre q (signField q)) (sample-paired pre q (signField q) l) e
+                (rw (form-three pre q (signField q)) (sign-told pre q));
           };
+      textAnswered = λ t. record { lifetimes = tt; answered = λ _. refl };
+      lentAnswered = λ κs s. record { lifetimes = κs; reference = s; text = refl; answered = λ _. refl };
     }

@@ -97,7 +97,7 @@ module _ (pre : Bool) (q : ℕ) (t u : Text) (h : Paired pre q t u) where
       (λ l. none-at-five (decodeOf t) (decodeOf u) (only-form e) (none-low (ltb-true q 0x100 l)))
       (λ l. five-high (ltb-false q 0x100 l) f)
 
-  set-apart : isSetApart pre q ≡ true → bySign pre q (operandWord t) ≡ false → shapeOf (decodeOf t) ≡ shapeOf (decodeOf u) → ⊥
+  pub set-apart : isSetApart pre q ≡ true → bySign pre q (operandWord t) ≡ false → shapeOf (decodeOf t) ≡ shapeOf (decodeOf u) → ⊥
   set-apart e f = other-low (set-apart-below pre q e) (rw (e, f) refl)
 
   alike-by-sign : isSetApart pre q ≡ true → bySign pre q (operandWord t) ≡ true → shapeOf (decodeOf t) ≡ shapeOf (decodeOf u)

@@ -2,5 +2,5 @@ pub mod DyadicLaws
 pub mod MonadicLaws
 pub mod TextLaws
 pub mod SetApartLaws
-pub mod EveryParcel
 pub mod FormBit
+pub mod EveryParcel

@@ -1,5 +1,5 @@
 pub mod Shapes
 pub mod SetApart
 pub mod FormBit
-pub mod EveryParcel
 pub mod Calls
+pub mod EveryParcel

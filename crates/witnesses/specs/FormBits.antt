@@ -5,12 +5,12 @@ use mathlib.Core.Bool.{Bool, true, false, cond, _&&_}
 use mathlib.Core.List.{List, [], _∷_}
 use lib.Dec.{T}
 use lib.ListN.{length}
-use Rattle.isa.specs.declared.Operand.{Operand}
-use Rattle.isa.specs.declared.Operand.the-variants.{General, Register}
 use Rattle.isa.specs.declared.Instruction.the-variants.{Short, Dyadic, Monadic}
 use Rattle.isa.specs.declared.Decoded.{Decoded}
 use Rattle.isa.specs.declared.Decoded.the-variants as answer
 use Rattle.isa.specs.Decode.{decodeShort, decodeDyadic, decodeMonadic, decodeThree, decodeWide, decodePrefixed, decodeBare, decodeOf}
+use Rattle.isa.specs.Encode.{operandRaw}
+use Rattle.exec_spec.specs.Alu.{bitDigit}
 use Rattle.form_bit.specs.SetApart.{setApart, isSetApart, bySign}
 use Rattle.witnesses.specs.Boards.{is, all}
 use Rattle.witnesses.specs.Decoding.{instructionFound, illegal, answerNumber, decoded}
@@ -31,19 +31,11 @@ abbrev pub rows : Bool → List ℕ → ℕ → ℕ → Bool
 rows pre [] right wrong = true
 rows pre (h ∷ hs) right wrong = is (rowOf pre h) right wrong && rows pre hs right wrong
 
-abbrev pub asNumber : Bool → ℕ
-asNumber true = 1
-asNumber false = 0
-
 -- ---- the value of a dyadic's source, a register's number too; 0 of any other answer
-
-abbrev pub valueOf : Operand → ℕ
-valueOf (General m v) = v
-valueOf (Register n) = n
 
 abbrev pub sourceValue : Decoded → ℕ
 sourceValue (answer.Is (Short i) n) = 0
-sourceValue (answer.Is (Dyadic i) n) = valueOf (i .source)
+sourceValue (answer.Is (Dyadic i) n) = operandRaw (i .source)
 sourceValue (answer.Is (Monadic i) n) = 0
 sourceValue answer.Illegal = 0
 sourceValue (answer.Unimplemented v) = 0
@@ -66,13 +58,13 @@ formBits =
     ∷ is (length (setApart true)) 51 52
     ∷ is (length (setApart false)) 248 249
     -- the list with or without a prefix for the other
-    ∷ is (asNumber (isSetApart false 0x00)) 1 0
-    ∷ is (asNumber (isSetApart true 0x00)) 0 1
+    ∷ is (bitDigit (isSetApart false 0x00)) 1 0
+    ∷ is (bitDigit (isSetApart true 0x00)) 0 1
     -- a parcel of another opcode on it
-    ∷ is (asNumber (isSetApart false 0x1FD)) 0 1
+    ∷ is (bitDigit (isSetApart false 0x1FD)) 0 1
     -- RETURN set apart by no sign, and ENTER by RETURN's
-    ∷ is (asNumber (bySign true 0xD2 0xFFFF_FFF0)) 1 0
-    ∷ is (asNumber (bySign true 0xD9 0xFFFF_FFF0)) 0 1
+    ∷ is (bitDigit (bySign true 0xD2 0xFFFF_FFF0)) 1 0
+    ∷ is (bitDigit (bySign true 0xD9 0xFFFF_FFF0)) 0 1
     ∷ is (answerNumber (decoded (0x2C00 ∷ 0x80D2 ∷ 0xFFFF ∷ 0xFFF0 ∷ []))) illegal instructionFound
     ∷ is (answerNumber (decoded (0x2C00 ∷ 0xC0D2 ∷ 0xFFFF ∷ 0xFFFF ∷ 0xFFFF ∷ 0xFFF0 ∷ []))) illegal instructionFound
     -- a legality rule that looks at the form: MOVA of an immediate, DQM from a byte, two registers read
