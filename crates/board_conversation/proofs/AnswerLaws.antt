@@ -17,7 +17,8 @@ use Rattle.board_lines.specs.declared.Frame.the-variants.{Set, Store, Run, Conf
 use Rattle.board_lines.specs.Lines.{frameOf, numbersOf}
 use Rattle.board_lines.proofs.FrameLaws.{same-frame}
 use Rattle.board_lines.specs.Stores.{StoreResult, storeResult, frameStore}
-use Rattle.board_lines.specs.Answers.{Output, output, printed, refusedLine, ranLine}
+use Rattle.hex.specs.Output.{Output, output, printed}
+use Rattle.board_lines.specs.Answers.{refusedLine, ranLine}
 use Rattle.board_conversation.specs.Conversation.{unlessDone, hasRun, frameAnswer}
 use Rattle.board_conversation.specs.Code.{BoardIo, boardIo, printedOn}
 use Rattle.board_conversation.specs.Blocks.{isLongRun, lineAnswered, answeredUnless}

@@ -15,9 +15,9 @@ use Rattle.board_lines.specs.declared.Frame.{Frame}
 use Rattle.board_lines.specs.declared.Frame.the-variants.{Set, Store, Run, Confined, Bad}
 use Rattle.board_lines.specs.Lines.{isLength, frameOf}
 use Rattle.board_lines.specs.Stores.{frameStore}
-use Rattle.board_lines.specs.Answers.{Output, output, written, printed}
+use Rattle.hex.specs.Output.{Output, output, written, printed}
 use Rattle.board_lines.proofs.FrameLaws.{least, bad-length}
-use Rattle.board_lines.proofs.AnswerLaws.{length-written, written-on, fits}
+use Rattle.hex.proofs.OutputLaws.{length-written, written-on, fits}
 use Rattle.board_conversation.specs.Conversation.{Answered, unlessDone, lineAnswer, frameAnswer, next, conversation}
 use Rattle.board_conversation.specs.Code.{BoardIo, boardIo}
 use Rattle.board_conversation.specs.Blocks.{ontoEnded, endedLines, isLongRun, together, linesOn}

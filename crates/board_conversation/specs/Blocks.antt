@@ -8,7 +8,7 @@ use lib.Dec.{eqb, leb, ltb}
 use Rattle.board_lines.specs.declared.Frame.{Frame}
 use Rattle.board_lines.specs.declared.Frame.the-variants.{Set, Store, Run, Confined, Bad}
 use Rattle.board_lines.specs.Lines.{frameOf}
-use Rattle.board_lines.specs.Answers.{newline}
+use Rattle.hex.specs.Output.{newline}
 use Rattle.board_conversation.specs.Conversation.{next}
 use Rattle.board_conversation.specs.Code.{BoardIo, lineOn}
 

@@ -10,7 +10,7 @@ use Rattle.machine.specs.Cache.{Cache}
 use Rattle.machine.specs.Status.{Cpu}
 use Rattle.datapath.specs.Contracts.{entryCpu, exitCpu}
 use Rattle.run_spec.specs.Run.{Board, board}
-use Rattle.board_lines.specs.Answers.{Output, output, printed}
+use Rattle.hex.specs.Output.{Output, output, printed}
 use Rattle.board_conversation.specs.Conversation.{Answered, lineAnswer}
 
 -- a board and the lent buffer that answers go to

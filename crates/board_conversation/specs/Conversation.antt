@@ -14,7 +14,8 @@ use Rattle.board_lines.specs.declared.Frame.{Frame}
 use Rattle.board_lines.specs.declared.Frame.the-variants.{Set, Store, Run, Confined, Bad}
 use Rattle.board_lines.specs.Lines.{frameOf, malformedLine}
 use Rattle.board_lines.specs.Stores.{StoreResult, frameStore}
-use Rattle.board_lines.specs.Answers.{newline, refusedLine, ranLine}
+use Rattle.hex.specs.Output.{newline}
+use Rattle.board_lines.specs.Answers.{refusedLine, ranLine}
 
 -- the board after a line, and what the line prints
 pub record Answered : Type 0 where

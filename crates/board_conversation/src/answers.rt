@@ -16,7 +16,7 @@ ghost use mathlib.Core.Path.{_≡_};
 ghost use Rattle.machine.specs.Registers.{setRegister};
 ghost use Rattle.run_spec.specs.Run.{run as runOf};
 ghost use Rattle.run_spec.specs.Boards.{entryBoard};
-ghost use Rattle.board_lines.specs.Answers.{output};
+ghost use Rattle.hex.specs.Output.{output};
 ghost use Rattle.board_lines.specs.Stores.{frameStore};
 ghost use Rattle.board_conversation.specs.Conversation.{unlessDone, hasRun, frameAnswer};
 ghost use Rattle.board_conversation.specs.Code.{printedOn, entryIo, exitIo, Prints};

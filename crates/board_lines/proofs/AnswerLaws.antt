@@ -1,31 +1,15 @@
 -- The lines that are printed: digits by twos, and texts one after the other.
 -- Assumes nothing.
-use mathlib.Core.Path.{_≡_, refl, sym, ap, _∙_}
+use mathlib.Core.Path.{_≡_, refl, ap, _∙_}
 use mathlib.Core.List.{List, [], _∷_, _++_}
-use Prim.Native.Nat.{ℕ, suc, _+_, _/_, _%_, _≤_, _<_}
-use native.Mathlib.Nat.{add-zero, div-one, div-div-eq-div-mul}
+use Prim.Native.Nat.{ℕ, _+_, _/_, _%_, _≤_, _<_}
+use native.Mathlib.Nat.{div-one, div-div-eq-div-mul}
 use native.Mathlib.Numerals.{add-one}
-use native.Mathlib.Omega.{arith}
-use lib.ListN.{length, set, length-set}
-use borrow.Author.Tests.{le-leb, lt-leb}
-use Rattle.board_lines.specs.Digits.{digitByte, digits}
-use Rattle.board_lines.specs.Answers.{written, output, printed, refusedLine, ranLine}
-
--- ---- texts
-
-pub length-written : (t o : List ℕ) (p : ℕ) → length (written o p t) ≡ length o
-length-written [] o p = refl
-length-written (b ∷ t) o p = length-written t (set o p b) (suc p) ∙ length-set o p b
-
-pub written-on : (a b o : List ℕ) (p : ℕ) → written (written o p a) (p + length a) b ≡ written o p (a ++ b)
-written-on [] b o p = rw add-zero refl
-written-on (x ∷ a) b o p =
-    let e : p + suc (length a) ≡ suc p + length a = omega arith in
-    rw e (written-on a b (set o p x) (suc p))
-
--- a text after another
-on : (a b o x y : List ℕ) (p q : ℕ) → x ≡ written o p a → y ≡ written x q b → q ≡ p + length a → y ≡ written o p (a ++ b)
-on a b o x y p q e g h = g ∙ (λ i. written (e i) (h i) b) ∙ written-on a b o p
+use lib.ListN.{length, set}
+use Rattle.hex.specs.Digits.{digitByte, digits}
+use Rattle.hex.specs.Output.{written, output, printed}
+use Rattle.hex.proofs.OutputLaws.{on, fits, full}
+use Rattle.board_lines.specs.Answers.{refusedLine, ranLine}
 
 -- ---- digits
 
@@ -47,15 +31,6 @@ word-written o w x y z p v e f g h =
     ∙ ap (written o p) (four v)
 
 -- ---- a line, whole or left out
-
-module _ (t o : List ℕ) (p : ℕ) where
-  pub fits : (x : List ℕ) (n : ℕ) → n ≡ length t → p + n ≤ length o → x ≡ written o p t → output x (p + n) ≡ printed t (output o p)
-  unfolding printed
-  fits x n e h g = rw (sym e, le-leb (p + n) (length o) h) (ap (λ (y : List ℕ). output y (p + n)) g)
-
-  pub full : (n : ℕ) → n ≡ length t → length o < p + n → output o p ≡ printed t (output o p)
-  unfolding printed
-  full n e h = rw (sym e, lt-leb (p + n) (length o) h) refl
 
 module _ (o : List ℕ) (p : ℕ) where
   pub refused-in : (w x y : List ℕ) (r l : ℕ) → p + 13 ≤ length o → w ≡ written o p (digits 2 0x82)

@@ -1,17 +1,18 @@
 -- Digits: the number of one, numbers of two and eight, and the test of a whole line.
 -- Assumes nothing.
 use mathlib.Core.Path.{_≡_, refl, sym, ap, _∙_}
-use mathlib.Core.Bool.{Bool, true, false, true≢false, and-assoc, and-true, and-false, _&&_, _||_}
+use mathlib.Core.Bool.{Bool, true, false, true≢false, and-true, and-false, _&&_, _||_}
 use mathlib.Core.List.{List, [], _∷_, _++_}
 use Prim.Native.Nat.{ℕ, suc, _+_, _-_, _*_, _/_, _%_, _≤_, _<_}
 use native.Mathlib.Nat.{add-zero}
 use native.Mathlib.Omega.{arith}
 use lib.ListN.{length, getD, take, drop, length-drop, take-append-drop}
-use lib.Seq.{take-all, take-suc, take-add, drop-cons, drop-drop, getD-drop, split-at}
+use lib.Seq.{take-all, take-suc, take-add, drop-cons, drop-drop, getD-drop}
 use lib.Dec.{leb}
 use borrow.Author.Tests.{leb-true}
 use Rattle.word.proofs.CaseLaws.{by-test, and-left, and-right}
-use Rattle.board_lines.specs.Digits.{isDecimal, isLetter, isDigit, allDigits, digitOf, numberAt, digitByte}
+use Rattle.hex.specs.Digits.{isDecimal, isLetter, isDigit, allDigits, digitOf, numberAt}
+use Rattle.hex.proofs.DigitLaws.{all-append}
 
 -- ---- a digit's number
 
@@ -46,11 +47,6 @@ module _ (b : ℕ) where
       (λ l. let f : true ≡ isDigit b = rw (d, l) refl in absurd (true≢false (f ∙ sym e ∙ h)))
       (λ l. (rw (d, l) refl, omega arith)))
 
--- the last arm of a table of sixteen
-pub digit-last : (x : ℕ) → 15 ≤ x → x < 16 → 70 ≡ digitByte x
-unfolding digitByte
-digit-last x h g = let e : 15 ≡ x = omega arith in ap digitByte e
-
 -- ---- numbers, two digits at a time
 
 pub number-2 : (s : List ℕ) (i : ℕ) → numberAt 2 s i ≡ digitOf (getD s i 0) * 16 + digitOf (getD s (i + 1) 0)
@@ -66,10 +62,6 @@ pub number-8 : (s : List ℕ) (i : ℕ)
 number-8 s i = rw (number-next 6 s i, number-next 4 s i, number-next 2 s i) refl
 
 -- ---- a line read up to its byte i
-
-all-append : (s t : List ℕ) → allDigits (s ++ t) ≡ (allDigits s && allDigits t)
-all-append [] t = refl
-all-append (b ∷ s) t = ap (λ (x : Bool). isDigit b && x) (all-append s t) ∙ sym (and-assoc (isDigit b) (allDigits s) (allDigits t))
 
 -- one byte after another
 module _ (s : List ℕ) (i : ℕ) where
@@ -150,9 +142,3 @@ module _ (s : List ℕ) where
       by-test x
       (λ b. rw b (read-all 8 8 y (read-more 8 0 x e read-none h b) h (omega arith) f))
       (λ b. rw b (read-bad 8 0 x e b))
-
-  pub digit-at : (i : ℕ) → allDigits s ≡ true → i < length s → isDigit (getD s i 0) ≡ true
-  digit-at i e h =
-      and-left (isDigit (getD s i 0)) (allDigits (drop (suc i) s))
-      (and-right (allDigits (take i s)) (isDigit (getD s i 0) && allDigits (drop (suc i) s))
-      (sym (all-append (take i s) (getD s i 0 ∷ drop (suc i) s)) ∙ ap allDigits (sym (split-at s i 0 h)) ∙ e))

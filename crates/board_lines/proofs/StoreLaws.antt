@@ -7,7 +7,7 @@ use native.Mathlib.Numerals.{add-one}
 use native.Mathlib.Omega.{arith}
 use lib.ListN.{length, set, length-set}
 use borrow.Author.Tests.{le-leb, lt-leb}
-use Rattle.board_lines.specs.Digits.{numberAt}
+use Rattle.hex.specs.Digits.{numberAt}
 use Rattle.board_lines.specs.Stores.{byteCount, bytesStored, storeResult, frameStore}
 
 -- the first k bytes of a line stand from a on

@@ -7,7 +7,7 @@ use lib.ListN.{length}
 use lib.Dec.{leb, eqb}
 use Rattle.board_lines.specs.declared.Frame.{Frame}
 use Rattle.board_lines.specs.declared.Frame.the-variants.{Set, Store, Run, Confined, Bad}
-use Rattle.board_lines.specs.Digits.{allDigits, numberAt}
+use Rattle.hex.specs.Digits.{allDigits, numberAt}
 
 -- refusal 7, "bad line": wrong digit, length or kind; empty line
 abbrev pub malformedLine : ℕ

@@ -5,7 +5,7 @@ use mathlib.Core.Bool.{cond}
 use mathlib.Core.List.{List}
 use lib.ListN.{length, set}
 use lib.Dec.{leb}
-use Rattle.board_lines.specs.Digits.{numberAt}
+use Rattle.hex.specs.Digits.{numberAt}
 
 -- refusal 8, "off the board": the bytes reach past the end of memory, a plain sum
 abbrev pub outsideMemory : ℕ

@@ -1,11 +1,12 @@
 // The lines that are printed, into a lent buffer. Each answers the place after it; a line for which there is no room is
 // left out.
-use crate::digits::last_digit;
+use hex::last_digit;
 ghost use mathlib.Core.Path.{_≡_};
 ghost use Prim.Native.Nat.{_+_, _≤_};
 ghost use lib.ListN.{length};
-ghost use Rattle.board_lines.specs.Digits.{digits};
-ghost use Rattle.board_lines.specs.Answers.{written, output, printed, refusedLine, ranLine};
+ghost use Rattle.hex.specs.Digits.{digits};
+ghost use Rattle.hex.specs.Output.{written, output, printed};
+ghost use Rattle.board_lines.specs.Answers.{refusedLine, ranLine};
 
 // Two digits.
 fn put_byte(out: &mut [u8], at: usize, x: u32)

@@ -1,9 +1,9 @@
 // Upper-case hexadecimal digits: tests of bytes, and numbers of two and eight digits.
 ghost use mathlib.Core.Path.{_≡_};
 ghost use mathlib.Core.Bool.{true};
-ghost use Prim.Native.Nat.{_+_, _%_, _≤_, _<_};
+ghost use Prim.Native.Nat.{_+_, _≤_, _<_};
 ghost use lib.ListN.{length, take, drop};
-ghost use Rattle.board_lines.specs.Digits.{isDigit, allDigits, digitOf, numberAt, digitByte};
+ghost use Rattle.hex.specs.Digits.{isDigit, allDigits, digitOf, numberAt};
 
 fn is_digit(b: u8) -> bool
     ensures { λ r. ⌜ r ≡ isDigit b ⌝ }
@@ -97,28 +97,4 @@ pub(crate) fn word_at(line: &[u8], i: usize) -> u32
     ((wide(byte_at(line, i)) * 256 + wide(byte_at(line, i + 2))) * 256 + wide(byte_at(line, i + 4)))
         * 256
         + wide(byte_at(line, i + 6))
-}
-
-// The last digit of a number: a table to the compiler.
-pub(crate) fn last_digit(x: u32) -> u8
-    ensures { λ r. ⌜ r ≡ digitByte (x % 16) ⌝ }
-{
-    match x % 16 {
-        0 => b'0',
-        1 => b'1',
-        2 => b'2',
-        3 => b'3',
-        4 => b'4',
-        5 => b'5',
-        6 => b'6',
-        7 => b'7',
-        8 => b'8',
-        9 => b'9',
-        10 => b'A',
-        11 => b'B',
-        12 => b'C',
-        13 => b'D',
-        14 => b'E',
-        _ => b'F',
-    }
 }

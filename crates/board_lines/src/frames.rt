@@ -6,7 +6,7 @@ use crate::digits::word_at;
 ghost use mathlib.Core.Path.{_≡_};
 ghost use mathlib.Core.Bool.{true};
 ghost use lib.ListN.{length};
-ghost use Rattle.board_lines.specs.Digits.{allDigits};
+ghost use Rattle.hex.specs.Digits.{allDigits};
 ghost use Rattle.board_lines.specs.Lines.{isLength, ofTwelve, frameOf, numbersOf};
 
 fn is_length(n: usize) -> bool

@@ -7,6 +7,7 @@ use native.Mathlib.Omega.{arith}
 use lib.Dec.{ltb, eqb}
 use borrow.Author.Tests.{eqb-true, eqb-false, le-ltb}
 use Rattle.word.proofs.CaseLaws.{passed, missed}
+use Rattle.word.proofs.EveryLaws.{every, holds}
 use Rattle.isa.specs.declared.Wide.the-variants.{Five}
 use Rattle.isa.specs.declared.MonadicRow.{MonadicRow}
 use Rattle.isa.specs.declared.MonadicRule.{MonadicRule}
@@ -19,7 +20,6 @@ use Rattle.isa.specs.declared.MonadicEntry.the-variants as single
 use Rattle.isa.specs.Tables.{monadicOf, monadicModeOf}
 use Rattle.isa.specs.Legal.{negative, monadicLegalOf}
 use Rattle.isa.specs.Decode.{monadicFound, monadicAnswer, decodeMonadic, decodeDyadic}
-use Rattle.roundtrip.proofs.EveryLaws.{every, holds}
 use Rattle.form_bit.specs.Shapes.{Shape, shortShape, dyadicShape, monadicShape, illegalShape, unimplementedShape, truncatedShape, shapeOf}
 use Rattle.form_bit.specs.SetApart.{isSetApart, bySign}
 use Rattle.form_bit.proofs.DyadicLaws.{of-choice, SameBits, shapeAt, dyadic-shape}

@@ -9,9 +9,9 @@ use lib.ListN.{length, getD, set, take, drop, length-set, length-drop}
 use lib.Seq.{take-suc, take-all, length-take-le, getD-drop}
 use borrow.Author.Tests.{le-leb, lt-leb}
 use Rattle.machine.proofs.FlatLaws.{Front, front-more, front-all}
-use Rattle.board_lines.specs.Answers.{written}
+use Rattle.hex.specs.Output.{written}
+use Rattle.hex.proofs.OutputLaws.{written-on}
 use Rattle.board_lines.specs.Stores.{storeResult}
-use Rattle.board_lines.proofs.AnswerLaws.{written-on}
 use Rattle.hobbit.specs.Bytes.{storedAt, loadedFrom}
 
 -- k bytes of t are in memory from a on

@@ -6,7 +6,7 @@ use mathlib.Core.List.{List}
 use lib.ListN.{length, take, drop}
 use lib.Dec.{leb}
 use Rattle.memory.specs.Bytes.{Memory}
-use Rattle.board_lines.specs.Answers.{written}
+use Rattle.hex.specs.Output.{written}
 use Rattle.board_lines.specs.Stores.{StoreResult, storeResult, outsideMemory}
 
 -- whether bytes from a on lie in memory

@@ -2,7 +2,7 @@
 ghost use mathlib.Core.Path.{_≡_};
 ghost use Prim.Native.Nat.{_+_, _≤_};
 ghost use lib.ListN.{length, take, drop};
-ghost use Rattle.board_lines.specs.Answers.{written};
+ghost use Rattle.hex.specs.Output.{written};
 ghost use Rattle.board_lines.specs.Stores.{storeResult};
 ghost use Rattle.hobbit.specs.Bytes.{storedAt, loadedFrom};
 

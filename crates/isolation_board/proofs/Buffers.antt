@@ -5,7 +5,7 @@ use mathlib.Core.Path.{_≡_, refl, ap, _∙_}
 use mathlib.Core.Bool.{true}
 use mathlib.Core.List.{List, [], _∷_}
 use Rattle.run_spec.specs.Run.{Board}
-use Rattle.board_lines.specs.Answers.{Output, printed}
+use Rattle.hex.specs.Output.{Output, printed}
 use Rattle.board_conversation.specs.Conversation.{lineAnswer, next, conversation}
 use Rattle.board_conversation.specs.Code.{boardIo}
 use Rattle.board_conversation.specs.Blocks.{linesOn}

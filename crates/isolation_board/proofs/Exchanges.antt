@@ -7,7 +7,7 @@ use mathlib.Core.List.{List, [], _∷_, _++_}
 use Rattle.memory.specs.Bytes.{Memory}
 use Rattle.machine.specs.Status.{Cpu}
 use Rattle.run_spec.specs.Run.{Board, board}
-use Rattle.board_lines.specs.Answers.{Output, output}
+use Rattle.hex.specs.Output.{Output, output}
 use Rattle.board_conversation.specs.Conversation.{next}
 use Rattle.board_conversation.specs.Code.{BoardIo, boardIo, boardIoOf}
 use Rattle.board_conversation.specs.Blocks.{linesOn}

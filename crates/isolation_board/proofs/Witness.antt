@@ -16,7 +16,7 @@ use Rattle.exec_spec.specs.Execute.{executeNormal, execute}
 use Rattle.step_spec.specs.Step.{fetchInstruction}
 use Rattle.step_spec.specs.Timers.{counted}
 use Rattle.run_spec.specs.Run.{actConfined, confinedAttempt, confinedTurn, advance, refusal, run}
-use Rattle.board_lines.specs.Digits.{digitOf, digitByte}
+use Rattle.hex.specs.Digits.{digitOf, digitByte}
 use Rattle.board_lines.specs.Lines.{frameOf}
 use Rattle.board_lines.specs.Stores.{frameStore}
 use Rattle.board_conversation.specs.Conversation.{frameAnswer, conversation}

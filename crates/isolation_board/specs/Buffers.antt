@@ -5,7 +5,7 @@ use mathlib.Core.Path.{_≡_}
 use mathlib.Core.Bool.{true}
 use mathlib.Core.List.{List}
 use Rattle.run_spec.specs.Run.{Board}
-use Rattle.board_lines.specs.Answers.{Output}
+use Rattle.hex.specs.Output.{Output}
 use Rattle.board_conversation.specs.Code.{boardIo}
 use Rattle.board_conversation.specs.Blocks.{linesOn}
 use Rattle.isolation.specs.Isolation.{Same, Apart}

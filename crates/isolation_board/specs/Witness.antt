@@ -4,7 +4,7 @@ use Prim.Native.Nat.{ℕ}
 use mathlib.Core.Path.{_≡_}
 use mathlib.Core.Bool.{true, false, _||_}
 use mathlib.Core.List.{List, [], _∷_, _++_}
-use Rattle.board_lines.specs.Digits.{digits}
+use Rattle.hex.specs.Digits.{digits}
 use Rattle.board_lines.specs.Answers.{refusedLine, ranLine}
 use Rattle.board_conversation.specs.Conversation.{conversation}
 use Rattle.isolation_witness.specs.Witness.{nonpagedBoard}

@@ -1,4 +1,3 @@
-pub mod EveryLaws
 pub mod RowLaws
 pub mod ShortLaws
 pub mod LengthLaws

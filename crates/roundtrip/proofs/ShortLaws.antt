@@ -7,6 +7,7 @@ use native.Mathlib.Omega.{arith}
 use lib.Dec.{eqb}
 use borrow.Author.Tests.{eqb-true, ne-eqb, lt-ltb}
 use Rattle.word.proofs.CaseLaws.{and-left, and-right}
+use Rattle.word.proofs.EveryLaws.{every, holds}
 use Rattle.isa.specs.declared.ShortInstruction.{ShortInstruction}
 use Rattle.isa.specs.declared.ShortListed.{ShortListed}
 use Rattle.isa.specs.declared.Instruction.the-variants as instruction
@@ -18,7 +19,6 @@ use Rattle.isa.specs.Answers.{withLength}
 use Rattle.isa.specs.Encodings.{shortListed}
 use Rattle.isa.specs.Encode.{coded, text1, carries, shortParcel, encodeShort}
 use Rattle.isa.specs.Decode.{cpuPrefix, decodeShort, decodeBare, decodeOf}
-use Rattle.roundtrip.proofs.EveryLaws.{every, holds}
 use Rattle.roundtrip.proofs.RowLaws.{From, row}
 
 -- ---- encode, then decode

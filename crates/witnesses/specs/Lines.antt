@@ -8,10 +8,11 @@ use lib.ListN.{length, set, take}
 use lib.Dec.{T}
 use Rattle.machine.specs.Registers.{goodBank, setRegister}
 use Rattle.run_spec.specs.Run.{advance, refusal, run}
-use Rattle.board_lines.specs.Digits.{digitOf, numberAt, digitByte, digits}
+use Rattle.hex.specs.Digits.{digitOf, numberAt, digitByte, digits}
+use Rattle.hex.specs.Output.{newline}
 use Rattle.board_lines.specs.Lines.{numbersOf, frameOf}
 use Rattle.board_lines.specs.Stores.{frameStore}
-use Rattle.board_lines.specs.Answers.{newline, refusedLine, ranLine}
+use Rattle.board_lines.specs.Answers.{refusedLine, ranLine}
 use Rattle.board_conversation.specs.Conversation.{frameAnswer, conversation, linesOf, boardProgram}
 use Rattle.board_conversation.specs.Blocks.{newlineAt, endedLines, together, sizeOf, lastOf}
 use Rattle.board_conversation.specs.Loop.{exchangeLines, exchangeRest}

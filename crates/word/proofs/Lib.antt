@@ -1,5 +1,6 @@
 pub mod MatchLaws
 pub mod CaseLaws
+pub mod EveryLaws
 pub mod FieldLaws
 mod SumLaws
 mod FlagLaws

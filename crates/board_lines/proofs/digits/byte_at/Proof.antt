@@ -1,4 +1,5 @@
-use Rattle.board_lines.proofs.DigitLaws.{digit-at, number-2}
+use Rattle.hex.proofs.DigitLaws.{digit-at}
+use Rattle.board_lines.proofs.DigitLaws.{number-2}
 use native.Mathlib.Omega.{arith}
 use mathlib.Core.Path.{refl}
 use borrow.Author.Needs.{needs}

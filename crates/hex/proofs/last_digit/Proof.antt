@@ -2,10 +2,10 @@ use mathlib.Core.Path.{sym, ap}
 use Prim.Native.Nat.{zero-le}
 use native.Mathlib.Omega.{arith}
 use Rattle.word.proofs.MatchLaws.{climb}
-use Rattle.board_lines.specs.Digits.{digitByte}
-use Rattle.board_lines.proofs.DigitLaws.{digit-last}
-use Rattle.board_lines.proofs.digits.last_digit.Statement.{statement}
-use Rattle.board_lines.proofs.digits.last_digit.Tie as tie
+use Rattle.hex.specs.Digits.{digitByte}
+use Rattle.hex.proofs.DigitLaws.{digit-last}
+use Rattle.hex.proofs.last_digit.Statement.{statement}
+use Rattle.hex.proofs.last_digit.Tie as tie
 
 returns : tie.Need-returns
 unfolding digitByte
