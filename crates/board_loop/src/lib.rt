@@ -1,14 +1,12 @@
 // The loop of a board program: lines from standard input, answers to standard output. It reads, makes an exchange of
 // the conversation (`board_conversation::exchanges`), and writes what that answered; no contract can say what is read or written.
-mod channels;
-mod waiting;
-
-use crate::channels::Input;
-use crate::channels::receive;
-use crate::channels::send;
+use board_conversation::LoopState;
 use board_conversation::exchanges::begin;
 use board_conversation::exchanges::converse;
 use board_conversation::exchanges::finish;
+use channels::Input;
+use channels::receive;
+use channels::send;
 use machine::record::start_bank;
 use machine::record::start_cache;
 
@@ -16,6 +14,14 @@ const BLOCK: usize = 32768;
 
 // No line prints more than 13 bytes for each of its own, its newline among them.
 const ROOM: usize = 13 * BLOCK;
+
+// Reads behind what is kept, unless a line is left to be answered.
+fn more_input(s: LoopState, block: &mut [u8]) -> Input {
+    if s.more {
+        return Input::Filled(s.end);
+    }
+    receive(block, s.end)
+}
 
 // A conversation with the board whose memory is lent, until its input ends or a read or a write fails.
 pub fn serve(memory: &mut [u8]) {
@@ -29,11 +35,11 @@ pub fn serve(memory: &mut [u8]) {
     // A proved loop has to end: it counts down from a number that no run uses up.
     let mut turns = u64::MAX;
     while 0 < turns {
-        match receive(s, block) {
+        match more_input(s, block) {
             Input::Filled(end) => {
                 s = converse(s, end, block, memory, &mut quads, &mut bank, out);
             }
-            Input::RunResult => {
+            Input::Ended => {
                 let place = finish(s, block, memory, &mut quads, &mut bank, out);
                 send(out, place);
                 return;

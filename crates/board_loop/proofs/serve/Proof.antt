@@ -30,8 +30,8 @@ begin-requires c κs = search needs
 loop-holds : tie.Need-loop-holds Inv-loop μ-loop
 loop-holds c = search needs
 
-receive-requires : tie.Need-receive-requires Inv-loop μ-loop
-receive-requires c κs = search needs
+more-input-requires : tie.Need-more-input-requires Inv-loop μ-loop
+more-input-requires c κs = search needs
 
 enum-known-end : tie.Need-enum-known-end Inv-loop μ-loop
 enum-known-end c = search needs
@@ -99,7 +99,7 @@ serve-spec =
     start-bank-requires
     begin-requires
     loop-holds
-    receive-requires
+    more-input-requires
     enum-known-end
     converse-requires
     enum-told

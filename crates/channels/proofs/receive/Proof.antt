@@ -1,17 +1,14 @@
 use mathlib.Core.Path.{_≡_}
 use lib.ListN.{length}
 use borrow.Author.Needs.{needs}
-use Rattle.board_loop.proofs.channels.receive.Statement.{statement}
-use Rattle.board_loop.proofs.channels.receive.Tie as tie
+use Rattle.channels.proofs.receive.Statement.{statement}
+use Rattle.channels.proofs.receive.Tie as tie
 
 abbrev Inv-loop : tie.InvT-loop
-Inv-loop block₀ end turns₀ t7 block turns = length block ≡ length block₀
+Inv-loop block₀ end turns₀ t6 block turns = length block ≡ length block₀
 
 abbrev μ-loop : tie.MeasureT-loop
-μ-loop block₀ end turns₀ t7 block turns = turns
-
-returns : tie.Need-returns Inv-loop μ-loop
-returns c = search needs
+μ-loop block₀ end turns₀ t6 block turns = turns
 
 loop-holds : tie.Need-loop-holds Inv-loop μ-loop
 loop-holds c = search needs
@@ -19,8 +16,8 @@ loop-holds c = search needs
 same-length : tie.Need-same-length Inv-loop μ-loop
 same-length c = search needs
 
-returns-2 : tie.Need-returns-2 Inv-loop μ-loop
-returns-2 c = search needs
+returns : tie.Need-returns Inv-loop μ-loop
+returns c = search needs
 
 sub-read : tie.Need-sub-read Inv-loop μ-loop
 sub-read c = search needs
@@ -37,8 +34,8 @@ read-requires c κs = search needs
 same-length-2 : tie.Need-same-length-2 Inv-loop μ-loop
 same-length-2 c = search needs
 
-returns-3 : tie.Need-returns-3 Inv-loop μ-loop
-returns-3 c = search needs
+returns-2 : tie.Need-returns-2 Inv-loop μ-loop
+returns-2 c = search needs
 
 sub-count : tie.Need-sub-count Inv-loop μ-loop
 sub-count c = search needs
@@ -52,14 +49,14 @@ part-count-end c = search needs
 count-requires : tie.Need-count-requires Inv-loop μ-loop
 count-requires c κs = search needs
 
-add-t20 : tie.Need-add-t20 Inv-loop μ-loop
-add-t20 c = search needs
+add-t18 : tie.Need-add-t18 Inv-loop μ-loop
+add-t18 c = search needs
 
 same-length-3 : tie.Need-same-length-3 Inv-loop μ-loop
 same-length-3 c = search needs
 
-returns-4 : tie.Need-returns-4 Inv-loop μ-loop
-returns-4 c = search needs
+returns-3 : tie.Need-returns-3 Inv-loop μ-loop
+returns-3 c = search needs
 
 again-requires : tie.Need-again-requires Inv-loop μ-loop
 again-requires c κs = search needs
@@ -73,8 +70,8 @@ fail-requires c κs = search needs
 same-length-4 : tie.Need-same-length-4 Inv-loop μ-loop
 same-length-4 c = search needs
 
-returns-5 : tie.Need-returns-5 Inv-loop μ-loop
-returns-5 c = search needs
+returns-4 : tie.Need-returns-4 Inv-loop μ-loop
+returns-4 c = search needs
 
 sub-turns : tie.Need-sub-turns Inv-loop μ-loop
 sub-turns c = search needs
@@ -88,8 +85,8 @@ loop-again c = search needs
 same-length-5 : tie.Need-same-length-5 Inv-loop μ-loop
 same-length-5 c = search needs
 
-returns-6 : tie.Need-returns-6 Inv-loop μ-loop
-returns-6 c = search needs
+returns-5 : tie.Need-returns-5 Inv-loop μ-loop
+returns-5 c = search needs
 
 pub receive-spec : {M : Type 1} → statement M
 receive-spec =
@@ -97,30 +94,29 @@ receive-spec =
     (tie.spec
     Inv-loop
     μ-loop
-    returns
     loop-holds
     same-length
-    returns-2
+    returns
     sub-read
     part-read-start
     part-read-end
     read-requires
     same-length-2
-    returns-3
+    returns-2
     sub-count
     part-count-start
     part-count-end
     count-requires
-    add-t20
+    add-t18
     same-length-3
-    returns-4
+    returns-3
     again-requires
     slice-aggregate-fail
     fail-requires
     same-length-4
-    returns-5
+    returns-4
     sub-turns
     loop-less
     loop-again
     same-length-5
-    returns-6)
+    returns-5)

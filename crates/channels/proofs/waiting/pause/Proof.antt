@@ -47,10 +47,10 @@ use Rattle.libc.proofs.nanosleep as wait
 use Rattle.libc.proofs.nanosleep.Symbol as wait-def
 use Rattle.libc.proofs.nanosleep.Symbol.{name as #libc·nanosleep}
 use Rattle.libc.proofs.nanosleep.Met as wait-thm
-use Rattle.board_loop.proofs.waiting.pause.Key.{name as #board_loop·waiting·pause}
-use Rattle.board_loop.proofs.waiting.pause as f
-use Rattle.board_loop.proofs.waiting.pause.Statement as stated
-use Rattle.board_loop.proofs.waiting.pause.Code as code
+use Rattle.channels.proofs.waiting.pause.Key.{name as #channels·waiting·pause}
+use Rattle.channels.proofs.waiting.pause as f
+use Rattle.channels.proofs.waiting.pause.Statement as stated
+use Rattle.channels.proofs.waiting.pause.Code as code
 
 -- the millisecond, and its machine value
 abbrev ms : timespec
@@ -129,6 +129,6 @@ pub pause-spec : {M : Type 1} → stated.statement M
 unfolding code.routine tablesOf
 pause-spec 𝓤 H 𝓜 𝓖 𝓡 =
     entered 𝓤 H (tripleOf 𝓤 H (𝓖 .A) f.signature (f.spec 𝓤 H (𝓖 .A) (𝓜 .mem) (𝓡 .run)))
-    (tables 𝓤 H 𝓜 𝓡 code.env .C) (tables 𝓤 H 𝓜 𝓡 code.env .Λ) #board_loop·waiting·pause code.function (code.unfolded 𝓤 H 𝓜 𝓡)
+    (tables 𝓤 H 𝓜 𝓡 code.env .C) (tables 𝓤 H 𝓜 𝓡 code.env .Λ) #channels·waiting·pause code.function (code.unfolded 𝓤 H 𝓜 𝓡)
     (pause-meets 𝓤 H (𝓖 .A) (givenOf 𝓤 H 𝓜 𝓖) (𝓜 .mem) (𝓡 .run) (tablesOf 𝓤 H 𝓜 (tables 𝓤 H 𝓜 𝓡 code.env))
     (cited 𝓤 H (Wait 𝓤 H (𝓖 .A) (givenOf 𝓤 H 𝓜 𝓖) (𝓜 .mem) (𝓡 .run)) 𝓜 𝓡 code.env #libc·nanosleep wait-def.routine code.calls-libc·nanosleep (wait-thm.met 𝓤 H 𝓜 𝓖 𝓡)))

@@ -1,13 +1,14 @@
 // Standard input and output. A call that a signal interrupts, or that would have to wait, is made again; any other that
-// fails writes one line to standard error.
+// fails writes one line to standard error. No contract can say what is read or written.
+mod waiting;
+
 use crate::waiting::pause;
-use board_conversation::LoopState;
 
 // What is there after a read.
-pub(crate) enum Input {
+pub enum Input {
     // The block is filled up to here.
     Filled(usize),
-    RunResult,
+    Ended,
     Failed,
 }
 
@@ -21,12 +22,8 @@ fn again() -> bool {
     error == libc::EINTR
 }
 
-// Reads behind what is kept, unless a line is left to be answered.
-pub(crate) fn receive(s: LoopState, block: &mut [u8]) -> Input {
-    let end = s.end;
-    if s.more {
-        return Input::Filled(end);
-    }
+// Reads into a block behind its first bytes, as many as `end`.
+pub fn receive(block: &mut [u8], end: usize) -> Input {
     let mut turns = u64::MAX;
     while 0 < turns {
         // Never: what is kept is shorter than the block.
@@ -35,7 +32,7 @@ pub(crate) fn receive(s: LoopState, block: &mut [u8]) -> Input {
         }
         let got = libc::read(libc::STDIN_FILENO, &mut block[end..]);
         if got == 0 {
-            return Input::RunResult;
+            return Input::Ended;
         }
         if 0 < got {
             let all = &block[..];
@@ -51,7 +48,7 @@ pub(crate) fn receive(s: LoopState, block: &mut [u8]) -> Input {
 }
 
 // Writes the first bytes of a buffer: whether all were taken.
-pub(crate) fn send(out: &[u8], place: usize) -> bool {
+pub fn send(out: &[u8], place: usize) -> bool {
     let mut done = 0;
     let mut turns = u64::MAX;
     while 0 < turns {

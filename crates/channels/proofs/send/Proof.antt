@@ -1,6 +1,6 @@
 use borrow.Author.Needs.{needs}
-use Rattle.board_loop.proofs.channels.send.Statement.{statement}
-use Rattle.board_loop.proofs.channels.send.Tie as tie
+use Rattle.channels.proofs.send.Statement.{statement}
+use Rattle.channels.proofs.send.Tie as tie
 
 abbrev Inv-loop : tie.InvT-loop
 Inv-loop out place done₀ turns₀ t6 done turns = Unit {0}
