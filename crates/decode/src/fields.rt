@@ -4,13 +4,27 @@ use isa::fields::field_value;
 use word::fields::field;
 ghost use mathlib.Core.Path.{_≡_};
 ghost use Prim.Native.Nat.{_%_, _/_, _^_};
-ghost use Rattle.isa.specs.Fields.{sourceField, destinationField, fieldValue};
+ghost use Rattle.isa.specs.Fields.{shortOpcode, shortOperands, sourceField, destinationField, fieldValue};
 
 // The low bits of x, as many as the low five bits of count say.
 pub(crate) fn low(x: u32, count: u32) -> u32
     ensures { λ r. ⌜ r ≡ x % 2 ^ (count % 32) ⌝ }
 {
     field(x, 0, count)
+}
+
+// Fields of one parcel, of it as a word: the opcode, five bits after the first.
+pub fn short_opcode(p: u32) -> u32
+    ensures { λ r. ⌜ r ≡ shortOpcode p ⌝ }
+{
+    field(p, 10, 5)
+}
+
+// The ten bits after it.
+pub fn short_operands(p: u32) -> u32
+    ensures { λ r. ⌜ r ≡ shortOperands p ⌝ }
+{
+    low(p, 10)
 }
 
 // Fields of the first parcel of three or five, at the same places in both; of the parcel as a word, which is made of it once.
@@ -53,8 +67,8 @@ fn source_field(mode: FieldMode, p: u16) -> u32
         FieldMode::Wai5 => middle(p),
         FieldMode::Stk5 => middle(p),
         FieldMode::Istk5 => middle(p),
-        FieldMode::Imm10 => low(p as u32, 10),
-        FieldMode::Pcrel10 => low(p as u32, 10),
+        FieldMode::Imm10 => short_operands(p as u32),
+        FieldMode::Pcrel10 => short_operands(p as u32),
         FieldMode::Stk8 => low(p as u32, 8),
         FieldMode::Fill8 => low(p as u32, 8),
     }

@@ -1,6 +1,7 @@
 // One parcel: a 0 bit, a five-bit opcode, ten operand bits.
 use crate::fields::destination_value;
-use crate::fields::low;
+use crate::fields::short_opcode;
+use crate::fields::short_operands;
 use crate::fields::source_value;
 use decode_tables::parcel::find_niladic;
 use decode_tables::parcel::find_short;
@@ -25,7 +26,7 @@ pub fn find_entry(e: ShortEntry, p: u16) -> ShortEntry
     match e {
         ShortEntry::Row(r, s, d) => ShortEntry::Row(r, s, d),
         ShortEntry::Stack => find_stack(field(p as u32, 8, 2)),
-        ShortEntry::Niladic => find_niladic(low(p as u32, 10)),
+        ShortEntry::Niladic => find_niladic(short_operands(p as u32)),
         ShortEntry::Prefix => ShortEntry::Prefix,
         ShortEntry::Unimplemented => ShortEntry::Unimplemented,
         ShortEntry::Trap => ShortEntry::Trap,
@@ -61,5 +62,5 @@ fn answer(e: ShortEntry, p: u16) -> Decoded
 pub(crate) fn decode_short(p: u16) -> Decoded
     ensures { λ r. ⌜ r ≡ decodeShort p ⌝ }
 {
-    answer(find_entry(find_short(field(p as u32, 10, 5)), p), p)
+    answer(find_entry(find_short(short_opcode(p as u32)), p), p)
 }

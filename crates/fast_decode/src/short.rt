@@ -1,6 +1,7 @@
 // One parcel.
 use crate::Plan;
 use decode::fields::destination_value;
+use decode::fields::short_opcode;
 use decode::fields::source_value;
 use decode::short::find_entry;
 use decode_tables::parcel::find_short;
@@ -11,7 +12,6 @@ use isa::ShortEntry;
 use isa::ShortRow;
 use isa::Wide;
 use isa::lengths::SHORT_LENGTH;
-use word::fields::field;
 ghost use mathlib.Core.Path.{_≡_};
 ghost use Rattle.isa.specs.declared.ShortEntry.the-variants as entry;
 ghost use Rattle.isa.specs.Lengths.{shortLength};
@@ -54,5 +54,5 @@ fn plan_entry(e: ShortEntry, p: u16) -> Plan
 pub fn plan_short(p: u16) -> Plan
     ensures { λ x. ⌜ x ≡ planOf (decodeShort p) ⌝ }
 {
-    plan_entry(find_entry(find_short(field(p as u32, 10, 5)), p), p)
+    plan_entry(find_entry(find_short(short_opcode(p as u32)), p), p)
 }

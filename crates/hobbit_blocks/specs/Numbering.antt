@@ -11,7 +11,7 @@
 -- tables have at its number. What is not of this shape, or has a length that is not its form's and its prefix's, names no
 -- instruction: proofs/RoundTrip.antt shows that blocks and instructions are each other's.
 -- Assumes nothing.
-use Prim.Native.Nat.{ℕ, _+_, _/_, _%_}
+use Prim.Native.Nat.{ℕ, _+_}
 use mathlib.Core.Bool.{Bool, cond, _&&_}
 use mathlib.Core.List.{List, [], _∷_}
 use lib.ListN.{length, getD}
@@ -38,6 +38,7 @@ use Rattle.isa.specs.declared.Wide.the-variants.{Three, Five}
 use Rattle.isa.specs.declared.Instruction.{Instruction}
 use Rattle.isa.specs.declared.Instruction.the-variants as instruction
 use Rattle.isa.specs.Tables.{shortOf, dyadicOf, monadicOf, generalOf, monadicModeOf}
+use Rattle.isa.specs.Fields.{shortOpcode}
 use Rattle.isa.specs.Decode.{shortEntry}
 use Rattle.isa.specs.Encodings.{shortListed, dyadicListed, monadicListed}
 use Rattle.isa.specs.Lengths.{shortLength, wideLength, prefixLength}
@@ -98,7 +99,7 @@ isShort r w p s d = ltb r 0x8000 && eqb w shortLength && eqb p 0 && eqb s 0 && e
 
 unfoldable pub shortIn : ℕ → ℕ → ℕ → ℕ → ℕ → ℕ → ℕ → Named
 shortIn r w p s x d y =
-    cond (isShort r w p s d) (shortNamed (shortEntry (shortOf (r / 1024 % 32)) r) r x y) nothing
+    cond (isShort r w p s d) (shortNamed (shortEntry (shortOf (shortOpcode r)) r) r x y) nothing
 
 -- the length is the form's and the prefix's
 abbrev pub lengthAgrees : Wide → ℕ → ℕ → Bool

@@ -1,6 +1,7 @@
 // The code of the instruction in a block, at a length n in parcels. Words after the kind: row r, length w, prefix p, source
 // mode s and value x, destination mode d and value y.
 use crate::REGISTER_MODE;
+use decode::fields::short_opcode;
 use decode::short::find_entry;
 use decode_tables::modes::find_general;
 use decode_tables::modes::find_monadic_mode;
@@ -27,7 +28,6 @@ use isa::Wide;
 use isa::lengths::SHORT_LENGTH;
 use isa::lengths::prefix_length;
 use isa::lengths::wide_length;
-use word::fields::field;
 ghost use mathlib.Core.Path.{_≡_};
 ghost use Rattle.isa.specs.declared.FieldMode.{FieldMode};
 ghost use Rattle.isa.specs.declared.ShortEntry.the-variants as short;
@@ -58,7 +58,7 @@ fn short_code(r: u32, w: u32, p: u32, s: u32, x: u32, d: u32, y: u32, n: u32) ->
     if !((r < 0x8000) & (w == SHORT_LENGTH) & (p == 0) & (s == 0) & (d == 0)) {
         return Encoded::NoCode;
     }
-    let e = find_entry(find_short(field(r, 10, 5)), r as u16);
+    let e = find_entry(find_short(short_opcode(r)), r as u16);
     match e {
         ShortEntry::Row(q, _, _) => row_code(q, r, x, y, n),
         ShortEntry::Stack => Encoded::NoCode,

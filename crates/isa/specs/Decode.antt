@@ -35,7 +35,7 @@ use Rattle.isa.specs.declared.Decoded.the-variants.{Illegal, Unimplement
 use Rattle.word.specs.Widths.{signExtendOf}
 use Rattle.isa.specs.Lengths.{wideLength}
 use Rattle.isa.specs.Answers.{unimplementedVector, niladicTrapVector, withLength}
-use Rattle.isa.specs.Fields.{sourceField, destinationField, fieldValue}
+use Rattle.isa.specs.Fields.{shortOpcode, shortOperands, sourceField, destinationField, fieldValue}
 use Rattle.isa.specs.Tables.{shortOf, stackOf, niladicOf, dyadicOf, monadicOf, generalOf, prefixedOf, monadicModeOf}
 use Rattle.isa.specs.Legal.{legalOf, monadicLegalOf}
 
@@ -45,7 +45,7 @@ use Rattle.isa.specs.Legal.{legalOf, monadicLegalOf}
 abbrev pub shortEntry : ShortEntry → ℕ → ShortEntry
 shortEntry (short.Row r s d) p = short.Row r s d
 shortEntry short.Stack p = stackOf (p / 256 % 4)
-shortEntry short.Niladic p = niladicOf (p % 1024)
+shortEntry short.Niladic p = niladicOf (shortOperands p)
 shortEntry short.Prefix p = short.Prefix
 shortEntry short.Unimplemented p = short.Unimplemented
 shortEntry short.Trap p = short.Trap
@@ -66,7 +66,7 @@ shortAnswer short.Trap p = Unimplemented niladicTrapVector
 shortAnswer short.Unlisted p = Illegal
 
 unfoldable pub decodeShort : ℕ → Decoded
-decodeShort p = shortAnswer (shortEntry (shortOf (p / 1024 % 32)) p) p
+decodeShort p = shortAnswer (shortEntry (shortOf (shortOpcode p)) p) p
 
 -- ---- dyadics of three and five parcels: 10 or 11, a six-bit opcode, two four-bit modes
 

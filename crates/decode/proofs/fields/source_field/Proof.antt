@@ -39,26 +39,26 @@ middle-requires-5 c κs = search needs
 enum-told-7 : tie.Need-enum-told-7
 enum-told-7 c = search needs
 
-low-requires : tie.Need-low-requires
-low-requires c κs = search needs
+short-operands-requires : tie.Need-short-operands-requires
+short-operands-requires c κs = search needs
 
 enum-told-8 : tie.Need-enum-told-8
 enum-told-8 c = search needs
 
-low-requires-2 : tie.Need-low-requires-2
-low-requires-2 c κs = search needs
+short-operands-requires-2 : tie.Need-short-operands-requires-2
+short-operands-requires-2 c κs = search needs
 
 enum-told-9 : tie.Need-enum-told-9
 enum-told-9 c = search needs
 
-low-requires-3 : tie.Need-low-requires-3
-low-requires-3 c κs = search needs
+low-requires : tie.Need-low-requires
+low-requires c κs = search needs
 
 enum-told-10 : tie.Need-enum-told-10
 enum-told-10 c = search needs
 
-low-requires-4 : tie.Need-low-requires-4
-low-requires-4 c κs = search needs
+low-requires-2 : tie.Need-low-requires-2
+low-requires-2 c κs = search needs
 
 returns : tie.Need-returns
 returns c = search needs
@@ -106,13 +106,13 @@ source-field-spec =
     enum-told-6
     middle-requires-5
     enum-told-7
-    low-requires
+    short-operands-requires
     enum-told-8
-    low-requires-2
+    short-operands-requires-2
     enum-told-9
-    low-requires-3
+    low-requires
     enum-told-10
-    low-requires-4
+    low-requires-2
     returns
     returns-2
     returns-3

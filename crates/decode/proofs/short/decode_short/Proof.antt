@@ -3,8 +3,8 @@ use borrow.Author.Needs.{needs}
 use Rattle.decode.proofs.short.decode_short.Statement.{statement}
 use Rattle.decode.proofs.short.decode_short.Tie as tie
 
-field-requires : tie.Need-field-requires
-field-requires c κs = search needs
+short-opcode-requires : tie.Need-short-opcode-requires
+short-opcode-requires c κs = search needs
 
 find-short-requires : tie.Need-find-short-requires
 find-short-requires c κs = search needs
@@ -21,4 +21,4 @@ returns c = search (needs, short-is)
 pub decode-short-spec : {M : Type 1} → statement M
 decode-short-spec =
     tie.close
-    (tie.spec field-requires find-short-requires find-entry-requires answer-requires returns)
+    (tie.spec short-opcode-requires find-short-requires find-entry-requires answer-requires returns)

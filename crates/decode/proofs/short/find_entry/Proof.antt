@@ -18,8 +18,8 @@ find-stack-requires c κs = search needs
 enum-told-2 : tie.Need-enum-told-2
 enum-told-2 c = search needs
 
-low-requires : tie.Need-low-requires
-low-requires c κs = search needs
+short-operands-requires : tie.Need-short-operands-requires
+short-operands-requires c κs = search needs
 
 find-niladic-requires : tie.Need-find-niladic-requires
 find-niladic-requires c κs = search needs
@@ -66,7 +66,7 @@ find-entry-spec =
     field-requires
     find-stack-requires
     enum-told-2
-    low-requires
+    short-operands-requires
     find-niladic-requires
     enum-told-3
     enum-told-4

@@ -3,8 +3,8 @@ use borrow.Author.Needs.{needs}
 use Rattle.fast_decode.proofs.short.plan_short.Statement.{statement}
 use Rattle.fast_decode.proofs.short.plan_short.Tie as tie
 
-field-requires : tie.Need-field-requires
-field-requires c κs = search needs
+short-opcode-requires : tie.Need-short-opcode-requires
+short-opcode-requires c κs = search needs
 
 find-short-requires : tie.Need-find-short-requires
 find-short-requires c κs = search needs
@@ -21,4 +21,4 @@ returns c = search (needs, short-planned)
 pub plan-short-spec : {M : Type 1} → statement M
 plan-short-spec =
     tie.close
-    (tie.spec field-requires find-short-requires find-entry-requires plan-entry-requires returns)
+    (tie.spec short-opcode-requires find-short-requires find-entry-requires plan-entry-requires returns)

@@ -7,8 +7,8 @@ use Rattle.hobbit_blocks.proofs.words.short_code.Tie as tie
 returns : tie.Need-returns
 returns c = search (needs, short-none)
 
-field-requires : tie.Need-field-requires
-field-requires c κs = search needs
+short-opcode-requires : tie.Need-short-opcode-requires
+short-opcode-requires c κs = search needs
 
 find-short-requires : tie.Need-find-short-requires
 find-short-requires c κs = search needs
@@ -44,7 +44,7 @@ enum-told-6 : tie.Need-enum-told-6
 enum-told-6 c = search needs
 
 returns-2 : tie.Need-returns-2
-returns-2 c = short-row (c .before .before .before .before .before .before .before .before .args .r) (c .before .before .before .before .before .before .before .before .args .w) (c .before .before .before .before .before .before .before .before .args .p) (c .before .before .before .before .before .before .before .before .args .s) (c .before .before .before .before .before .before .before .before .args .x) (c .before .before .before .before .before .before .before .before .args .d) (c .before .before .before .before .before .before .before .before .args .y) (c .before .before .before .before .before .before .before .before .args .n) _ _ _ (c .before .before .before .before .before .before .before .if1 .left) (c .before .before .before .before .before .before .field .ensures) (c .before .before .before .before .before .find-short .ensures) (c .before .before .before .before .find-entry .ensures) _ _ _ _ (c .before .before .e .given .1) (c .row-code .ensures)
+returns-2 c = short-row (c .before .before .before .before .before .before .before .before .args .r) (c .before .before .before .before .before .before .before .before .args .w) (c .before .before .before .before .before .before .before .before .args .p) (c .before .before .before .before .before .before .before .before .args .s) (c .before .before .before .before .before .before .before .before .args .x) (c .before .before .before .before .before .before .before .before .args .d) (c .before .before .before .before .before .before .before .before .args .y) (c .before .before .before .before .before .before .before .before .args .n) _ _ _ (c .before .before .before .before .before .before .before .if1 .left) (c .before .before .before .before .before .before .short-opcode .ensures) (c .before .before .before .before .before .find-short .ensures) (c .before .before .before .before .find-entry .ensures) _ _ _ _ (c .before .before .e .given .1) (c .row-code .ensures)
 
 returns-3 : tie.Need-returns-3
 returns-3 c = search (needs, short-at)
@@ -69,7 +69,7 @@ short-code-spec =
     tie.close
     (tie.spec
     returns
-    field-requires
+    short-opcode-requires
     find-short-requires
     cast-find-entry
     find-entry-requires
