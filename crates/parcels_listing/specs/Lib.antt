@@ -1,0 +1,4 @@
+pub mod Listing
+pub mod Portions
+pub mod OneParcelList
+pub mod Instructions
