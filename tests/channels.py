@@ -1,12 +1,18 @@
 #!/usr/bin/env python3
-"""channels.py [BOARD]: what the board does where its input comes in pieces or fails, and where its output is slow, full,
-closed or broken. BOARD is target/bin/board if none is named. Answers are those of document 01; a failure is one line on
-standard error, after which nothing is run. Prints a line for each case, and ends with status 1 if one is not as it must be.
+"""channels.py [BOARD [PARCELS]]: what the board does where its input comes in pieces or fails, and what the board and the list of
+the one-parcel instructions do where their output is slow, full, closed or broken. BOARD is target/bin/board and PARCELS
+target/bin/parcels if none is named. Answers are those of document 01, the list is crates/parcels/stdout; a failure is one line on
+standard error, after which nothing is run or written. Prints a line for each case, and ends with status 1 if one is not as it must
+be.
 """
 import fcntl, os, signal, socket, struct, subprocess, sys, threading, time
 
 here = os.path.dirname(os.path.abspath(__file__))
-board = sys.argv[1] if len(sys.argv) > 1 else os.path.join(here, '..', 'target', 'bin', 'board')
+named = dict(enumerate(sys.argv))
+board = named.get(1, os.path.join(here, '..', 'target', 'bin', 'board'))
+parcels = named.get(2, os.path.join(here, '..', 'target', 'bin', 'parcels'))
+with open(os.path.join(here, '..', 'crates', 'parcels', 'stdout'), 'rb') as stored:
+    LIST = stored.read()
 SOON = 20   # seconds; a run of the largest budget takes minutes
 BAD = b'no frame\n'
 NOTHING = b'030000000007\n'                       # a run of budget 0
@@ -25,9 +31,9 @@ def nonblocking(fd):
     fcntl.fcntl(fd, fcntl.F_SETFL, fcntl.fcntl(fd, fcntl.F_GETFL) | os.O_NONBLOCK)
 
 
-def run(stdin, **more):
+def run(stdin, program=board, **more):
     """What is written to standard output (if that is a pipe), to standard error, and the status; all soon."""
-    p = subprocess.Popen([board], stdin=subprocess.PIPE, stderr=subprocess.PIPE, **more)
+    p = subprocess.Popen([program], stdin=subprocess.PIPE, stderr=subprocess.PIPE, **more)
     try:
         out, err = p.communicate(stdin, SOON)
     except subprocess.TimeoutExpired:
@@ -40,39 +46,50 @@ def refused(first, last):
     return b''.join(b'8207%08X\n' % n for n in range(first, last + 1))
 
 
-# a full device: the run after the refused line is not begun
-with open('/dev/full', 'wb') as full:
-    told('a full device', run(BAD + FOREVER, stdout=full), (None, b'standard output: No space left on device\n', 0))
-
-told('a closed output', run(BAD + FOREVER, preexec_fn=lambda: os.close(1)), (None, b'standard output: Bad file descriptor\n', 0))
-
-# nobody reads: the signal ends the process, or, where that is ignored, the failure does
-for ignored, wanted in ((False, (None, b'', -signal.SIGPIPE)), (True, (None, b'standard output: Broken pipe\n', 0))):
+def slowly(stdin, program):
+    """What comes to a slow reader of an output that does not wait."""
     reader, writer = os.pipe()
-    os.close(reader)
-    told('a killed reader, its signal %s' % ('ignored' if ignored else 'not ignored'),
-         run(BAD + FOREVER, stdout=writer, restore_signals=not ignored), wanted)
+    fcntl.fcntl(writer, 1031, 4096)   # F_SETPIPE_SZ
+    nonblocking(writer)
+    p = subprocess.Popen([program], stdin=subprocess.PIPE, stdout=writer)
     os.close(writer)
+    threading.Thread(target=lambda: (p.stdin.write(stdin), p.stdin.close()), daemon=True).start()
+    time.sleep(0.3)
+    came = b''
+    while True:
+        piece = os.read(reader, 1500)
+        if not piece:
+            break
+        came += piece
+        if len(came) < 30000:
+            time.sleep(0.01)
+    os.close(reader)
+    p.wait()
+    return came
 
-# an output that would have to wait: every answer comes, in order
+
+# outputs that fail: the board's run after the refused line is not begun, and no more of the list is written
 LINES = 20000
-reader, writer = os.pipe()
-fcntl.fcntl(writer, 1031, 4096)   # F_SETPIPE_SZ
-nonblocking(writer)
-p = subprocess.Popen([board], stdin=subprocess.PIPE, stdout=writer)
-os.close(writer)
-threading.Thread(target=lambda: (p.stdin.write(BAD * LINES), p.stdin.close()), daemon=True).start()
-time.sleep(0.3)
-came = b''
-while True:
-    piece = os.read(reader, 1500)
-    if not piece:
-        break
-    came += piece
-    if len(came) < 30000:
-        time.sleep(0.01)
-told('a slow reader of an output that does not wait', came, refused(1, LINES))
-p.wait()
+for name, program, stdin in (('', board, BAD + FOREVER), ('list: ', parcels, b'')):
+    with open('/dev/full', 'wb') as full:
+        told(name + 'a full device', run(stdin, program, stdout=full), (None, b'standard output: No space left on device\n', 0))
+
+    told(name + 'a closed output', run(stdin, program, preexec_fn=lambda: os.close(1)),
+         (None, b'standard output: Bad file descriptor\n', 0))
+
+    # nobody reads: the signal ends the process, or, where that is ignored, the failure does
+    for ignored, wanted in ((False, (None, b'', -signal.SIGPIPE)), (True, (None, b'standard output: Broken pipe\n', 0))):
+        reader, writer = os.pipe()
+        os.close(reader)
+        told(name + 'a killed reader, its signal %s' % ('ignored' if ignored else 'not ignored'),
+             run(stdin, program, stdout=writer, restore_signals=not ignored), wanted)
+        os.close(writer)
+
+# an output that would have to wait: every answer comes, in order, and every line of the list
+told('a slow reader of an output that does not wait', slowly(BAD * LINES, board), refused(1, LINES))
+told('list: a slow reader of an output that does not wait', slowly(b'', parcels), LIST)
+told('list: an input that is closed, which it does not read', run(b'', parcels, stdout=subprocess.PIPE, preexec_fn=lambda: os.close(0)),
+     (LIST, b'', 0))
 
 # an input that does not wait, in pieces: a line cut anywhere is answered once it is whole
 reader, writer = os.pipe()

@@ -1,6 +1,7 @@
 pub mod Boards
 pub mod Decoding
 pub mod FormBits
+pub mod Listing
 pub mod Machines
 pub mod Steps
 pub mod Events

@@ -3,6 +3,7 @@
 //!   crosscheck alone [STEPS] [SEED]   our interpreter alone: what the generator reaches
 //!   crosscheck board            reads frames and prints lines with our interpreter, as the board program does
 //!   crosscheck texts            reads parcels and prints what they decode to, as the program test_decoder does
+//!   crosscheck parcels          prints the list of the one-parcel instructions, as the program parcels does
 //!   crosscheck frames [SEED]    prints a random conversation for a board program
 mod board;
 mod compare;
@@ -25,7 +26,7 @@ fn check(arguments: &[String]) -> ExitCode {
     let steps = number(arguments.first(), 1_000_000);
     let seed = number(arguments.get(1), 1);
     let (Some(steps), Some(seed)) = (steps, seed) else {
-        eprintln!("usage: crosscheck [STEPS] [SEED] | alone [STEPS] [SEED] | board | texts | frames [SEED]");
+        eprintln!("usage: crosscheck [STEPS] [SEED] | alone [STEPS] [SEED] | board | texts | parcels | frames [SEED]");
         return ExitCode::from(2);
     };
     if !link::Proved::LINKED {
@@ -67,6 +68,7 @@ fn main() -> ExitCode {
     match arguments.first().map(String::as_str) {
         Some("board") => ended("board", board::serve()),
         Some("texts") => ended("texts", texts::tell()),
+        Some("parcels") => ended("parcels", texts::list()),
         Some("alone") => {
             let (steps, seed) = (number(arguments.get(1), 1_000_000), number(arguments.get(2), 1));
             compare::alone(steps.unwrap_or(0), seed.unwrap_or(1)).tally.print();

@@ -312,6 +312,13 @@ pub fn tell() -> std::io::Result<()> {
     }
 }
 
+/// The list of the one-parcel instructions, as the program parcels prints it: parcel, opcode, operand bits. A prefix is listed.
+pub fn list() -> std::io::Result<()> {
+    let listed = (0..0x8000).filter(|&p| p == PREFIX || matches!(decode(&[p]), Decoded::Is(_)));
+    let lines = listed.map(|p| format!("{p:04X}{:02X}{:03X}\n", p >> 10, p & 0x3FF));
+    std::io::stdout().write_all(lines.collect::<String>().as_bytes())
+}
+
 /// All first parcels, then random blocks.
 pub fn compare(seed: u64, summary: &mut Summary) {
     let mut random = Random::new(seed);
