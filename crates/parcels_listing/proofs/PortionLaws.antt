@@ -2,7 +2,7 @@
 -- Assumes nothing.
 use Prim.Native.Nat.{ℕ, suc, _+_, _-_, _*_, _≤_, _<_}
 use mathlib.Core.Path.{_≡_, refl, sym, ap, subst, _∙_}
-use mathlib.Core.Bool.{true, false}
+use mathlib.Core.Bool.{Bool, true, false}
 use mathlib.Core.List.{List, [], _∷_, _++_}
 use native.Mathlib.Nat.{zero-add}
 use native.Mathlib.Omega.{arith}
@@ -105,10 +105,11 @@ module _ (first : ℕ) (o : List ℕ) where
         ap (output x) (sym (zero-add place)) ∙ fits (parcelLines (take (f .count) l)) o 0 x place z (omega (arith, f .fit)) (f .bytes)
 
     -- no room for another line
-    pub portion-full : p < parcelCount → onList p ≡ true → length x - place < lineSize → portion p (output x place) ≡ portionOf first o
-    portion-full h e r =
+    pub portion-full : (t : Bool) → p < parcelCount → t ≡ onList p → t ≡ true → length x - place < lineSize
+        → portion p (output x place) ≡ portionOf first o
+    portion-full t h d e r =
         let k : lineRoom o ≡ f .count = omega (arith, f .long, f .upto, f .fit) in
-        let g : drop (f .count) (listedFrom first) ≡ p ∷ listedFrom (p + 1) = f .rest ∙ listed-from p h e in
+        let g : drop (f .count) (listedFrom first) ≡ p ∷ listedFrom (p + 1) = f .rest ∙ listed-from p h (sym d ∙ e) in
         rw k (λ i. portion (nextOf (sym g i)) (filled-output i))
 
     -- no parcel left

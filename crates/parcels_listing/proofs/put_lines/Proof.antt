@@ -30,7 +30,7 @@ same-length : tie.Need-same-length Inv-loop μ-loop
 same-length c = search needs
 
 returns : tie.Need-returns Inv-loop μ-loop
-returns c = portion-full _ _ _ _ _ (c .before .before .before .before .loop .inv) (omega arith) (sym (c .before .before .on-list .ensures) ∙ c .before .if1 .taken) (omega arith)
+returns c = search (needs, portion-full)
 
 put-line-requires : tie.Need-put-line-requires Inv-loop μ-loop
 put-line-requires c κs = search needs
