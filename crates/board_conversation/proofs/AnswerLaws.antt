@@ -12,12 +12,12 @@ use Rattle.machine.specs.Registers.{Bank, Setting, setting, setRegister}
 use Rattle.machine.specs.Cache.{Cache}
 use Rattle.machine.specs.Status.{Cpu, cpu, reg}
 use Rattle.run_spec.specs.Run.{board, RunResult, runResult, run}
+use Rattle.hex.specs.Output.{Output, output, printed}
 use Rattle.board_lines.specs.declared.Frame.{Frame}
 use Rattle.board_lines.specs.declared.Frame.the-variants.{Set, Store, Run, Confined, Bad}
 use Rattle.board_lines.specs.Lines.{frameOf, numbersOf}
 use Rattle.board_lines.proofs.FrameLaws.{same-frame}
 use Rattle.board_lines.specs.Stores.{StoreResult, storeResult, frameStore}
-use Rattle.hex.specs.Output.{Output, output, printed}
 use Rattle.board_lines.specs.Answers.{refusedLine, ranLine}
 use Rattle.board_conversation.specs.Conversation.{unlessDone, hasRun, frameAnswer}
 use Rattle.board_conversation.specs.Code.{BoardIo, boardIo, printedOn}

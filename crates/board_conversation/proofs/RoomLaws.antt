@@ -11,13 +11,13 @@ use lib.Dec.{eqb}
 use Rattle.word.proofs.CaseLaws.{by-test}
 use Rattle.run_spec.specs.Run.{Board}
 use Rattle.machine.specs.Registers.{setRegister}
+use Rattle.hex.specs.Output.{Output, output, written, printed}
+use Rattle.hex.proofs.OutputLaws.{length-written, written-on, room-printed}
 use Rattle.board_lines.specs.declared.Frame.{Frame}
 use Rattle.board_lines.specs.declared.Frame.the-variants.{Set, Store, Run, Confined, Bad}
 use Rattle.board_lines.specs.Lines.{isLength, frameOf}
 use Rattle.board_lines.specs.Stores.{frameStore}
-use Rattle.hex.specs.Output.{Output, output, written, printed}
 use Rattle.board_lines.proofs.FrameLaws.{least, bad-length}
-use Rattle.hex.proofs.OutputLaws.{length-written, written-on, fits}
 use Rattle.board_conversation.specs.Conversation.{Answered, unlessDone, lineAnswer, frameAnswer, next, conversation}
 use Rattle.board_conversation.specs.Code.{BoardIo, boardIo}
 use Rattle.board_conversation.specs.Blocks.{ontoEnded, endedLines, isLongRun, together, linesOn}
@@ -68,9 +68,7 @@ roomy (s ∷ l) n b o p h =
     let t = a .printed in
     let w = conversation (next n) l (a .board) .printed in
     let k = answer-short n s b in
-    let fit : printed t (output o p) ≡ output (written o p t) (p + length t) =
-    sym (fits t o p (written o p t) (length t) refl (omega arith) refl) in
-    ap (λ (x : Output). linesOn (next n) l (boardIo (a .board) x)) fit
+    ap (λ (x : Output). linesOn (next n) l (boardIo (a .board) x)) (room-printed t o p (omega arith))
     ∙ roomy l (next n) (a .board) (written o p t) (p + length t) (rw (length-written t o p) (omega arith))
     ∙ (λ i. boardIo (conversation (next n) l (a .board) .board)
     (output (written-on t w o p i) ((add-assoc p (length t) (length w) ∙ ap (λ (x : ℕ). p + x) (sym (length-append t w))) i)))

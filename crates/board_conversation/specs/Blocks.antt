@@ -5,10 +5,10 @@ use mathlib.Core.Bool.{Bool, true, false, cond, _&&_}
 use mathlib.Core.List.{List, [], _∷_}
 use lib.ListN.{length, drop}
 use lib.Dec.{eqb, leb, ltb}
+use Rattle.hex.specs.Output.{newline}
 use Rattle.board_lines.specs.declared.Frame.{Frame}
 use Rattle.board_lines.specs.declared.Frame.the-variants.{Set, Store, Run, Confined, Bad}
 use Rattle.board_lines.specs.Lines.{frameOf}
-use Rattle.hex.specs.Output.{newline}
 use Rattle.board_conversation.specs.Conversation.{next}
 use Rattle.board_conversation.specs.Code.{BoardIo, lineOn}
 

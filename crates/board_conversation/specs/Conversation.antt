@@ -10,11 +10,11 @@ use Rattle.machine.specs.Registers.{pc, psw, Setting, setRegister, startBank}
 use Rattle.machine.specs.Status.{cpu, reg}
 use Rattle.machine.specs.Record.{zeroCache}
 use Rattle.run_spec.specs.Run.{Board, board, RunResult, run}
+use Rattle.hex.specs.Output.{newline}
 use Rattle.board_lines.specs.declared.Frame.{Frame}
 use Rattle.board_lines.specs.declared.Frame.the-variants.{Set, Store, Run, Confined, Bad}
 use Rattle.board_lines.specs.Lines.{frameOf, malformedLine}
 use Rattle.board_lines.specs.Stores.{StoreResult, frameStore}
-use Rattle.hex.specs.Output.{newline}
 use Rattle.board_lines.specs.Answers.{refusedLine, ranLine}
 
 -- the board after a line, and what the line prints

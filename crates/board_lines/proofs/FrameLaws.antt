@@ -9,9 +9,9 @@ use lib.ListN.{length}
 use lib.Dec.{leb, eqb}
 use borrow.Author.Tests.{le-leb, lt-leb, eq-eqb, ne-eqb, leb-true}
 use Rattle.word.proofs.CaseLaws.{and-left}
+use Rattle.hex.specs.Digits.{allDigits, numberAt}
 use Rattle.board_lines.specs.declared.Frame.{Frame}
 use Rattle.board_lines.specs.declared.Frame.the-variants.{Set, Store, Run, Confined, Bad}
-use Rattle.hex.specs.Digits.{allDigits, numberAt}
 use Rattle.board_lines.specs.Lines.{FrameNumbers, numbersOf, isLength, ofTwelve, frameOf}
 
 -- ---- "12 to 74 digits": 75 bytes are no frame

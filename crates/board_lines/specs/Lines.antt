@@ -5,9 +5,9 @@ use mathlib.Core.Bool.{Bool, cond, _&&_}
 use mathlib.Core.List.{List}
 use lib.ListN.{length}
 use lib.Dec.{leb, eqb}
+use Rattle.hex.specs.Digits.{allDigits, numberAt}
 use Rattle.board_lines.specs.declared.Frame.{Frame}
 use Rattle.board_lines.specs.declared.Frame.the-variants.{Set, Store, Run, Confined, Bad}
-use Rattle.hex.specs.Digits.{allDigits, numberAt}
 
 -- refusal 7, "bad line": wrong digit, length or kind; empty line
 abbrev pub malformedLine : ℕ

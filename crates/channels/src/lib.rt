@@ -26,7 +26,7 @@ fn again() -> bool {
 pub fn receive(block: &mut [u8], end: usize) -> Input {
     let mut turns = u64::MAX;
     while 0 < turns {
-        // Never: what is kept is shorter than the block.
+        // A full block, which no program hands on: what is kept is shorter.
         if block.len() <= end {
             return Input::Failed;
         }

@@ -73,13 +73,13 @@ answer-shape entry.Unimplemented w pre s d = rw (legal-by-modes OneRegister s d)
 answer-shape entry.Unlisted w pre s d = refl
 
 -- the shape by what both modes' numbers name: no form, no field
-abbrev isListed : ModeEntry → Bool
-isListed (mode.General m) = true
-isListed mode.Register = true
-isListed mode.Unlisted = false
+abbrev isNamed : ModeEntry → Bool
+isNamed (mode.General m) = true
+isNamed mode.Register = true
+isNamed mode.Unlisted = false
 
 abbrev shapeNamed : DyadicEntry → Bool → ModeEntry → ModeEntry → Shape
-shapeNamed e pre a b = cond (isListed a && isListed b) (shapeWith e pre a b) illegalShape
+shapeNamed e pre a b = cond (isNamed a && isNamed b) (shapeWith e pre a b) illegalShape
 
 both-shape : (e : DyadicEntry) (w : Wide) (pre : Bool) (a b : ModeEntry) (x y : ℕ)
     → shapeOf (bothFound e w pre (operandFound w a x) (operandFound w b y)) ≡ shapeNamed e pre a b

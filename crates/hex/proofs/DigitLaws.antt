@@ -9,9 +9,10 @@ use native.Mathlib.Omega.{arith}
 use lib.ListN.{length, getD, set, take, drop, length-append, length-set}
 use lib.Seq.{append-snoc, getD-append-seam, split-at}
 use lib.Dec.{eqb, leb, ltb}
-use lib.Pow.{pow-add, mod-pow-add}
+use lib.Pow.{mod-pow-add}
 use borrow.Author.Tests.{leb-true, ltb-true, ltb-false, eqb-true}
 use Rattle.word.proofs.CaseLaws.{by-test, and-left, and-right}
+use Rattle.word.proofs.FieldLaws.{digits-pow}
 use Rattle.word.proofs.EveryLaws.{every, holds}
 use Rattle.hex.specs.Digits.{isDecimal, isLetter, isDigit, allDigits, digitOf, numberAt, digitByte, digits}
 use Rattle.hex.specs.Output.{output, written, printed}
@@ -80,10 +81,10 @@ module _ (d : ℕ) (h : d < 16) where
   unfolding numberTest
   number-passes = holds numberTest 4 0 d zero-le h numbers-pass
 
-  pub digit-is : isDigit (digitByte d) ≡ true
+  digit-is : isDigit (digitByte d) ≡ true
   digit-is = and-left (isDigit (digitByte d)) (eqb (digitOf (digitByte d)) d) number-passes
 
-  pub digit-back : digitOf (digitByte d) ≡ d
+  digit-back : digitOf (digitByte d) ≡ d
   digit-back = eqb-true _ _ (and-right (isDigit (digitByte d)) (eqb (digitOf (digitByte d)) d) number-passes)
 
 digit-below : (b : ℕ) → isDigit b ≡ true → b < 128
@@ -97,10 +98,10 @@ module _ (b : ℕ) (h : isDigit b ≡ true) where
   unfolding byteTest
   byte-passes = rw h at (holds byteTest 7 0 b zero-le (digit-below b h) bytes-pass)
 
-  pub digit-lt : digitOf b < 16
-  digit-lt = ltb-true _ _ (and-left (ltb (digitOf b) 16) (eqb (digitByte (digitOf b)) b) byte-passes)
+  digit-value : digitOf b < 16
+  digit-value = ltb-true _ _ (and-left (ltb (digitOf b) 16) (eqb (digitByte (digitOf b)) b) byte-passes)
 
-  pub byte-back : digitByte (digitOf b) ≡ b
+  byte-back : digitByte (digitOf b) ≡ b
   byte-back = eqb-true _ _ (and-right (ltb (digitOf b) 16) (eqb (digitByte (digitOf b)) b) byte-passes)
 
 -- ---- texts of digits
@@ -143,17 +144,11 @@ number-front (suc n) s i =
     add-mul (d * 16 ^ n) (numberAt n s (suc i)) 16 ∙ ap (λ (x : ℕ). x + numberAt n s (suc i) * 16) (mul-assoc d (16 ^ n) 16 ∙ ap (λ (x : ℕ). d * x) (sym (pow-suc 16 n))) in
     rw (number-front n s i, e) (omega (arith, f))
 
-hex-pow : (n : ℕ) → 16 ^ n ≡ 2 ^ (n * 4)
-hex-pow zero = refl
-hex-pow (suc n) =
-    let e : n * 4 + 4 ≡ suc n * 4 = omega arith in
-    pow-suc 16 n ∙ ap (λ (y : ℕ). y * 16) (hex-pow n) ∙ sym (pow-add 2 (n * 4) 4) ∙ ap (λ (y : ℕ). 2 ^ y) e
-
 -- a number by a digit and the digits below it
 joined-mod : (x n : ℕ) → x / 16 ^ n % 16 * 16 ^ n + x % 16 ^ n ≡ x % 16 ^ suc n
 joined-mod x n =
     let e : suc n * 4 ≡ 4 + n * 4 = omega arith in
-    rw (hex-pow n, hex-pow (suc n), e) (sym (mod-pow-add x 4 (n * 4)))
+    rw (digits-pow 4 n, digits-pow 4 (suc n), e) (sym (mod-pow-add x 4 (n * 4)))
 
 -- the n digits of a number, wherever they stand, have its number
 pub number-digits : (n x : ℕ) (a b : List ℕ) → numberAt n (a ++ (digits n x ++ b)) (length a) ≡ x % 16 ^ n
@@ -177,8 +172,8 @@ same-digits zero s t i j f g e k h = absurd (omega arith)
 same-digits (suc n) s t i j f g e k h =
     let a : ℕ = getD s (i + n) 0 in
     let b : ℕ = getD t (j + n) 0 in
-    let x = digit-lt a (f n (omega arith)) in
-    let y = digit-lt b (g n (omega arith)) in
+    let x = digit-value a (f n (omega arith)) in
+    let y = digit-value b (g n (omega arith)) in
     let high : numberAt n s i ≡ numberAt n t j = omega (arith, e, x, y) in
     let low : digitOf a ≡ digitOf b = omega (arith, e, x, y) in
     by-test (ltb k n)

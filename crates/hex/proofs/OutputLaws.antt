@@ -55,7 +55,7 @@ length-printed t o p =
 
 -- ---- what is shown of a buffer
 
-pub written-front : (t o : List ℕ) (p : ℕ) → p + length t ≤ length o → take (p + length t) (written o p t) ≡ take p o ++ t
+written-front : (t o : List ℕ) (p : ℕ) → p + length t ≤ length o → take (p + length t) (written o p t) ≡ take p o ++ t
 written-front [] o p h = rw (add-zero, append-nil) refl
 written-front (b ∷ t) o p h =
     let e : p + suc (length t) ≡ suc p + length t = omega arith in

@@ -1,11 +1,12 @@
 -- A field of a word replaced, at any place and width: m bits from bit s on.
 -- Assumes nothing.
 use mathlib.Core.Path.{_≡_, refl, sym, ap, _∙_, subst}
-use Prim.Native.Nat.{ℕ, zero, suc, _+_, _-_, _*_, _/_, _%_, _^_, _≤_, _<_}
-use native.Mathlib.Nat.{mod-lt, mul-comm, mul-assoc, add-mul, pow-suc, div-lt-iff-lt-mul}
+use Prim.Native.Nat.{ℕ, _+_, _-_, _*_, _/_, _%_, _^_, _≤_, _<_}
+use native.Mathlib.Nat.{mod-lt, mul-comm, mul-assoc, add-mul, div-lt-iff-lt-mul}
 use native.Mathlib.Omega.{arith}
 use lib.Pow.{pow-pos, pow-add, shr-shr, shl-exact, shr-lt, high, low, field, mod-mod-pow}
 use lib.Bits.{bitOr, or-shifted}
+use Rattle.word.proofs.FieldLaws.{digits-pow}
 use Rattle.machine.specs.Cache.{part, inserted}
 
 abbrev pub replaced : ℕ → ℕ → ℕ → ℕ → ℕ
@@ -58,21 +59,15 @@ module _ (s m v w : ℕ) where
 
 -- ---- bytes: 256 ^ n is 2 ^ (n * 8)
 
-pub bytes-pow : (n : ℕ) → 256 ^ n ≡ 2 ^ (n * 8)
-bytes-pow zero = refl
-bytes-pow (suc n) =
-    let e : suc n * 8 ≡ n * 8 + 8 = omega arith in
-    pow-suc 256 n ∙ ap (λ (x : ℕ). x * 256) (bytes-pow n) ∙ sym (pow-add 2 (n * 8) 8) ∙ ap (λ (k : ℕ). 2 ^ k) (sym e)
-
 -- the bit at which n bytes at the place a begin
 abbrev pub lowBit : ℕ → ℕ → ℕ
 lowBit n a = (4 - n - a % 4) * 8
 
 pub part-field : (n a w : ℕ) → part n a w ≡ w / 2 ^ lowBit n a % 2 ^ (n * 8)
-part-field n a w = rw (bytes-pow n, bytes-pow (4 - n - a % 4)) refl
+part-field n a w = rw (digits-pow 8 n, digits-pow 8 (4 - n - a % 4)) refl
 
 pub inserted-replaced : (n a v w : ℕ) → inserted n a v w ≡ replaced (lowBit n a) (n * 8) v w
-inserted-replaced n a v w = rw (bytes-pow n, bytes-pow (4 - n - a % 4), ← pow-add 2 (lowBit n a) (n * 8)) refl
+inserted-replaced n a v w = rw (digits-pow 8 n, digits-pow 8 (4 - n - a % 4), ← pow-add 2 (lowBit n a) (n * 8)) refl
 
 -- what was inserted is there
 pub part-inserted : (n a v w : ℕ) → part n a (inserted n a v w) ≡ v % 256 ^ n
@@ -80,7 +75,7 @@ part-inserted n a v w =
     part-field n a (inserted n a v w)
     ∙ ap (λ (x : ℕ). x / 2 ^ lowBit n a % 2 ^ (n * 8)) (inserted-replaced n a v w)
     ∙ replaced-field (lowBit n a) (n * 8) v w
-    ∙ ap (λ (x : ℕ). v % x) (sym (bytes-pow n))
+    ∙ ap (λ (x : ℕ). v % x) (sym (digits-pow 8 n))
 
 pub inserted-lt : (n a v w : ℕ) → n ≤ 4 → w < 2 ^ 32 → inserted n a v w < 2 ^ 32
 inserted-lt n a v w g h =

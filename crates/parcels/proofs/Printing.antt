@@ -19,7 +19,7 @@ use Rattle.parcels_listing.proofs.ListingLaws.{none-from}
 use Rattle.parcels_listing.proofs.LineLaws.{lines-append}
 use Rattle.parcels_listing.proofs.PortionLaws.{portion-shown, portion-rest, answer-further}
 use Rattle.parcels_listing.proofs.OneParcelList.{listing-is}
-use Rattle.parcels.specs.Printing.{PortionCall, PutLines, CallsFrom, nextAfter, handedOn, OneBuffer, Printing}
+use Rattle.parcels.specs.Printing.{PortionCall, PutLines, CallsFrom, nextAfter, handedOn, CallsToEnd, Printing}
 
 -- what the exported contract says: it asks for nothing, and an answer is the portion
 says : (p : ℕ) (x : PortionCall) → PutLines p x → portion (x .answer .next) (output (x .left) (x .answer .place)) ≡ portionOf p (x .lent .now)
@@ -74,17 +74,11 @@ module _ (ls : Lfts 1) (r : RefT (List ℕ)) where
   answers : (p : ℕ) (o : List ℕ) → PutLines p (call p o)
   answers p o = λ _. refl
 
-  record ToEnd (p : ℕ) (o : List ℕ) : Type 0 where
-    calls : List PortionCall
-    answered : CallsFrom p calls
-    buffer : OneBuffer o calls
-    nothingLeft : parcelCount ≤ nextAfter p calls
-
-  nothing-left : (p : ℕ) (o : List ℕ) → parcelCount ≤ p → ToEnd p o
+  nothing-left : (p : ℕ) (o : List ℕ) → parcelCount ≤ p → CallsToEnd p o
   nothing-left p o h = record { calls = []; answered = tt; buffer = tt; nothingLeft = h }
 
   -- n is no less than what is left
-  calls-from : (n p : ℕ) (o : List ℕ) → parcelCount - p ≤ n → lineSize ≤ length o → ToEnd p o
+  calls-from : (n p : ℕ) (o : List ℕ) → parcelCount - p ≤ n → lineSize ≤ length o → CallsToEnd p o
   calls-from zero p o h g = nothing-left p o (omega arith)
   calls-from (suc n) p o h g =
       by-test (ltb p parcelCount)
@@ -100,7 +94,5 @@ printing =
       begun = λ xs h. begun-from 0 xs h;
       whole = λ xs h e. subst IsList (sym (whole-from xs h e)) listing-is;
       further = λ p x l r h. goes-on p x h l r;
-      toEnd = λ ls o r.
-          let f = calls-from ls o parcelCount 0 (o .now) (omega arith) r in
-          record { calls = f .calls; answered = f .answered; buffer = f .buffer; nothingLeft = f .nothingLeft };
+      toEnd = λ ls o r. calls-from ls o parcelCount 0 (o .now) (omega arith) r;
     }

@@ -55,12 +55,12 @@ abbrev pub OneBuffer : List ℕ → List PortionCall → Type 0
 OneBuffer o [] = Unit {0}
 OneBuffer o (x ∷ xs) = (x .lent .now ≡ o) × OneBuffer (x .left) xs
 
--- so, to the end
-pub record CallsToEnd (o : List ℕ) : Type 0 where
+-- such calls from the parcel p on, to the end
+pub record CallsToEnd (p : ℕ) (o : List ℕ) : Type 0 where
   pub calls : List PortionCall
-  pub answered : CallsFrom 0 calls
+  pub answered : CallsFrom p calls
   pub buffer : OneBuffer o calls
-  pub nothingLeft : parcelCount ≤ nextAfter 0 calls
+  pub nothingLeft : parcelCount ≤ nextAfter p calls
 
 pub record Printing : Type 0 where
   -- at any time, as after a write that failed: the list without the lines that are left
@@ -69,4 +69,4 @@ pub record Printing : Type 0 where
   pub whole : (xs : List PortionCall) → CallsFrom 0 xs → parcelCount ≤ nextAfter 0 xs → IsList (handedOn xs)
   -- a buffer with room for a line takes the program further, and there are calls to the end
   pub further : (p : ℕ) (x : PortionCall) → p < parcelCount → lineSize ≤ length (x .lent .now) → PutLines p x → p < x .answer .next
-  pub toEnd : Lfts 1 → (o : RefT (List ℕ)) → lineSize ≤ length (o .now) → CallsToEnd (o .now)
+  pub toEnd : Lfts 1 → (o : RefT (List ℕ)) → lineSize ≤ length (o .now) → CallsToEnd 0 (o .now)

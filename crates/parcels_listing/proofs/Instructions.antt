@@ -7,7 +7,7 @@ use mathlib.Core.List.{List, [], _∷_}
 use native.Mathlib.Omega.{arith}
 use lib.ListN.{getD}
 use lib.Dec.{eqb, ltb}
-use borrow.Author.Tests.{ltb-true, eqb-false, ne-eqb, lt-ltb, le-ltb}
+use borrow.Author.Tests.{ltb-true, eqb-false, ne-eqb, lt-ltb}
 use Rattle.word.proofs.CaseLaws.{by-test, not-both}
 use Rattle.isa.specs.declared.ShortEntry.{ShortEntry}
 use Rattle.isa.specs.declared.ShortEntry.the-variants as entry
@@ -19,22 +19,19 @@ use Rattle.isa.specs.declared.Decoded.the-variants.{Is, Unimplemented}
 use Rattle.isa.specs.Lengths.{shortLength, following}
 use Rattle.isa.specs.Fields.{shortOpcode}
 use Rattle.isa.specs.Tables.{shortOf}
-use Rattle.isa.specs.Decode.{cpuPrefix, shortEntry, shortInstruction, shortAnswer, decodeShort, decodeBare, decodeOf, textOf}
+use Rattle.isa.specs.Decode.{cpuPrefix, shortEntry, shortInstruction, shortAnswer, decodeShort, decodeOf, textOf}
+use Rattle.isa.specs.Encode.{text1}
 use Rattle.isa.specs.Carried.{calledFor, Carried}
 use Rattle.isa.proofs.Carried.{carried-length}
 use Rattle.roundtrip.specs.Unused.{unusedZero}
-use Rattle.roundtrip.proofs.RoundTrip.{encode-decode, decode-encode}
-use Rattle.parcels_listing.specs.Listing.{alone, isLegal, onList}
+use Rattle.roundtrip.proofs.RoundTrip.{short-text, encode-decode, decode-encode}
+use Rattle.parcels_listing.specs.Listing.{isLegal, onList}
 use Rattle.parcels_listing.specs.Instructions.{OneParcel, Instructions}
 use Rattle.parcels_listing.proofs.OneParcelList.{listed-below, listed-answer}
 
 -- a parcel whose top bit is 0 and that is no prefix is decoded by itself, whatever follows
 decode-first : (t : Text) → 1 ≤ t .count → t .p0 < 0x8000 → (t .p0 ≡ cpuPrefix → ⊥) → decodeOf t ≡ decodeShort (t .p0)
-unfolding decodeOf decodeBare
-decode-first t c h n = simp (le-ltb (t .count) 1 c, ne-eqb (t .p0) cpuPrefix n, lt-ltb (t .p0) 0x8000 h)
-
-decode-rest : (p : ℕ) (rest : List ℕ) → p < 0x8000 → (p ≡ cpuPrefix → ⊥) → decodeOf (textOf (p ∷ rest)) ≡ decodeShort p
-decode-rest p rest h n = decode-first (textOf (p ∷ rest)) (omega arith) h n
+decode-first t c h n = short-text (t .count) (t .p0) (t .p1) (t .p2) (t .p3) (t .p4) (t .p5) c h n
 
 record OneParcelAnswer (d : Decoded) : Type 0 where
   found : Instruction
@@ -53,7 +50,7 @@ short-legal entry.Unlisted p h = not-both h
 
 module _ (p : ℕ) (e : onList p ≡ true) (n : p ≡ cpuPrefix → ⊥) where
   by-itself : (rest : List ℕ) → decodeOf (textOf (p ∷ rest)) ≡ decodeShort p
-  by-itself rest = decode-rest p rest (listed-below p e) n
+  by-itself rest = decode-first (textOf (p ∷ rest)) (omega arith) (listed-below p e) n
 
   short-listed : OneParcelAnswer (decodeShort p)
   unfolding decodeShort
@@ -63,7 +60,7 @@ module _ (p : ℕ) (e : onList p ≡ true) (n : p ≡ cpuPrefix → ⊥) where
   below zero = omega (arith, listed-below p e)
   below (suc k) = omega arith
 
-  unused : unusedZero (alone p) ≡ true
+  unused : unusedZero (text1 p) ≡ true
   unused = rw (ne-eqb p cpuPrefix n) refl
 
   one-parcel : OneParcel p
@@ -88,8 +85,8 @@ first-only p e =
     (λ h. ltb-true p 0x8000 h)
     (λ h. by-test (ltb p 0xC000) (λ g. absurd (omega (arith, rw (h, g) at e))) (λ g. absurd (omega (arith, rw (h, g) at e))))
 
-called-one : (t : Text) → 1 ≡ calledFor t → calledFor t ≤ t .count → OneCalledFor t
-called-one t e c =
+one-called-for : (t : Text) → 1 ≡ calledFor t → calledFor t ≤ t .count → OneCalledFor t
+one-called-for t e c =
     by-test (eqb (t .p0) cpuPrefix)
     (λ h. absurd (omega (arith, rw h at e)))
     (λ h. record { there = omega arith; below = first-only (t .p0) (rw h at e); no-prefix = eqb-false (t .p0) cpuPrefix h })
@@ -98,9 +95,9 @@ decoded-listed : (t : Text) (i : Instruction) → decodeOf t ≡ Is i shortLengt
 unfolding onList
 decoded-listed t i e =
     let c : Carried (calledFor t) (t .count) (Is i shortLength) = rw e at (carried-length t) in
-    let o = called-one t (c .1) (c .2) in
-    let d : decodeOf (alone (t .p0)) ≡ Is i shortLength =
-    decode-rest (t .p0) [] (o .below) (o .no-prefix) ∙ sym (decode-first t (o .there) (o .below) (o .no-prefix)) ∙ e in
+    let o = one-called-for t (c .1) (c .2) in
+    let d : decodeOf (text1 (t .p0)) ≡ Is i shortLength =
+    decode-first (text1 (t .p0)) (omega arith) (o .below) (o .no-prefix) ∙ sym (decode-first t (o .there) (o .below) (o .no-prefix)) ∙ e in
     rw (lt-ltb (t .p0) 0x8000 (o .below), d) refl
 
 pub instructions : Instructions
@@ -108,5 +105,5 @@ instructions =
     record {
       listed = one-parcel;
       decodedListed = decoded-listed;
-      encodedListed = λ p i e. decoded-listed (alone p) i (encode-decode i shortLength (alone p) [] e);
+      encodedListed = λ p i e. decoded-listed (text1 p) i (encode-decode i shortLength (text1 p) [] e);
     }

@@ -35,8 +35,9 @@ pub line-at : (ps : List ℕ) (k : ℕ) → k < length ps
 unfolding parcelLines
 line-at ps k h = ap parcelLines (split-at ps k 0 h) ∙ lines-append (take k ps) (getD ps k 0 ∷ drop (suc k) ps)
 
-pub before-line : (ps : List ℕ) (k : ℕ) → k < length ps → length (parcelLines (take k ps)) ≡ k * lineSize
-before-line ps k h = length-lines (take k ps) ∙ ap (λ (n : ℕ). n * lineSize) (length-take-le k ps (omega arith))
+-- the bytes of the first k
+pub first-lines : (ps : List ℕ) (k : ℕ) → k ≤ length ps → length (parcelLines (take k ps)) ≡ k * lineSize
+first-lines ps k h = length-lines (take k ps) ∙ ap (λ (n : ℕ). n * lineSize) (length-take-le k ps h)
 
 -- ---- the digits of a line put one after the other
 

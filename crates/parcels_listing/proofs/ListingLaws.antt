@@ -1,6 +1,6 @@
 -- The parcels on the list: each of them, once, rising.
 -- Assumes nothing.
-use Prim.Native.Nat.{ℕ, zero, suc, _+_, _-_, _≤_, _<_}
+use Prim.Native.Nat.{ℕ, zero, suc, _+_, _-_, _/_, _≤_, _<_}
 use mathlib.Core.Path.{_≡_, refl, ap, _∙_}
 use mathlib.Core.Bool.{Bool, true, false}
 use mathlib.Core.List.{List, [], _∷_}
@@ -10,24 +10,26 @@ use lib.ListN.{length, getD, drop}
 use lib.Dec.{ltb}
 use borrow.Author.Tests.{ltb-true, ltb-false, lt-ltb, le-ltb}
 use Rattle.word.proofs.CaseLaws.{by-test}
-use Rattle.isa.specs.declared.Text.{Text}
 use Rattle.isa.specs.declared.Decoded.{Decoded}
 use Rattle.isa.specs.Answers.{decodedNumbers}
 use Rattle.isa.specs.Decode.{decodeOf}
+use Rattle.isa.specs.Encode.{text1}
 use Rattle.isa.proofs.AnswerLaws.{same-decoded}
-use Rattle.parcels_listing.specs.Listing.{alone, isLegal, onList, parcelCount, listedOf, listedFrom}
+use Rattle.parcels_listing.specs.Listing.{isLegal, onList, parcelCount, listedOf, listedFrom}
+use Rattle.parcels_listing.specs.OneParcelList.{Among}
 
 -- ---- the test of one parcel
 
-module _ (p : ℕ) where
-  pub on-list-is : (t : Text) (d : Decoded) (r : Bool) → p < 0x8000 → t ≡ alone p → decodedNumbers d ≡ decodedNumbers (decodeOf t)
+-- f is its form
+module _ (p f : ℕ) where
+  pub on-list-is : (d : Decoded) (r : Bool) → f ≡ p / 0x4000 → f < 2 → decodedNumbers d ≡ decodedNumbers (decodeOf (text1 p))
       → r ≡ isLegal d → r ≡ onList p
   unfolding onList
-  on-list-is t d r h e f g = rw (lt-ltb p 0x8000 h) (g ∙ ap isLegal (same-decoded d (decodeOf t) f ∙ ap decodeOf e))
+  on-list-is d r i h e g = rw (lt-ltb p 0x8000 (omega arith)) (g ∙ ap isLegal (same-decoded d (decodeOf (text1 p)) e))
 
-  pub on-list-not : 0x8000 ≤ p → false ≡ onList p
+  pub on-list-not : f ≡ p / 0x4000 → 2 ≤ f → false ≡ onList p
   unfolding onList
-  on-list-not h = rw (le-ltb p 0x8000 h) refl
+  on-list-not i h = rw (le-ltb p 0x8000 (omega arith)) refl
 
 -- ---- from a parcel on
 
@@ -90,15 +92,13 @@ rising-list (suc n) p j k g h =
 
 -- ---- each
 
-pub record Position (l : List ℕ) (q : ℕ) : Type 0 where
-  pub place : ℕ
-  pub within : place < length l
-  pub there : getD l place 0 ≡ q
+abbrev pub InList : List ℕ → ℕ → Type 0
+InList l q = Among (λ k. getD l k 0) (length l) q
 
-place-later : (l : List ℕ) (p q : ℕ) → Position l q → Position (p ∷ l) q
-place-later l p q f = record { place = suc (f .place); within = omega (arith, f .within); there = f .there }
+place-later : (l : List ℕ) (p q : ℕ) → InList l q → InList (p ∷ l) q
+place-later l p q f = record { place = suc (f .place); within = omega (arith, f .within); number = f .number }
 
-pub place-of : (n p q : ℕ) → p ≤ q → q < p + n → onList q ≡ true → Position (listedOf n p) q
+pub place-of : (n p q : ℕ) → p ≤ q → q < p + n → onList q ≡ true → InList (listedOf n p) q
 unfolding listedOf
 place-of zero p q f g h = absurd (omega arith)
 place-of (suc n) p q f g h =
@@ -107,7 +107,7 @@ place-of (suc n) p q f g h =
     by-test (onList p) (λ w. rw w (place-later (listedOf n (suc p)) p q r)) (λ w. rw w r))
     (λ e. let z : p ≡ q = omega (arith, ltb-false p q e) in
     let w : onList p ≡ true = ap onList z ∙ h in
-    rw w (record { place = 0; within = omega arith; there = z }))
+    rw w (record { place = 0; within = omega arith; number = z }))
 
 -- ---- the list from one of its parcels on
 

@@ -15,14 +15,15 @@ use Rattle.isa.specs.declared.Decoded.{Decoded}
 use Rattle.isa.specs.declared.Decoded.the-variants.{Is, Illegal, Unimplemented, Truncated}
 use Rattle.isa.specs.Fields.{shortOpcode, shortOperands}
 use Rattle.isa.specs.Decode.{cpuPrefix, decodeOf, decodePrefixed}
+use Rattle.isa.specs.Encode.{text1}
 use Rattle.hex.specs.Digits.{isDigit, allDigits, numberAt, digits}
 use Rattle.hex.specs.Output.{newline}
 use Rattle.hex.proofs.DigitLaws.{all-append, all-digits, digit-at, number-digits, same-digits}
-use Rattle.parcels_listing.specs.Listing.{alone, isLegal, onList, parcelCount, listedFrom, parcelLine, lineSize, parcelLines, listing}
+use Rattle.parcels_listing.specs.Listing.{isLegal, onList, parcelCount, listedFrom, parcelLine, lineSize, parcelLines, listing}
 use Rattle.parcels_listing.specs.OneParcelList.{parcelAt, opcodeAt, operandsAt, LegalParcel, HasLine, IsList, OneList}
 use Rattle.parcels_listing.proofs.ListingLaws.{member-at, rising-list, place-of}
-use Rattle.parcels_listing.proofs.LineLaws.{length-lines, line-at, before-line}
-use Rattle.parcels_listing.proofs.RisingLaws.{Among, rising-once, rising-same, rising-count}
+use Rattle.parcels_listing.proofs.LineLaws.{length-lines, line-at, first-lines}
+use Rattle.parcels_listing.proofs.RisingLaws.{rising-once, rising-same, rising-count}
 
 -- ---- a line in a text, read
 
@@ -75,22 +76,22 @@ answer-legal d e f g h = absurd (true≢false (sym f ∙ ap isLegal h ∙ g))
 
 pub legal-listed : (p : ℕ) → p < 0x8000 → LegalParcel p → onList p ≡ true
 unfolding onList
-legal-listed p h l = rw (lt-ltb p 0x8000 h) (legal-answer (decodeOf (alone p)) (l .notIllegal) (l .notUnimplemented))
+legal-listed p h l = rw (lt-ltb p 0x8000 h) (legal-answer (decodeOf (text1 p)) (l .notIllegal) (l .notUnimplemented))
 
 module _ (p : ℕ) (h : onList p ≡ true) where
   pub listed-below : p < 0x8000
   unfolding onList
-  listed-below = ltb-true p 0x8000 (and-left (ltb p 0x8000) (isLegal (decodeOf (alone p))) h)
+  listed-below = ltb-true p 0x8000 (and-left (ltb p 0x8000) (isLegal (decodeOf (text1 p))) h)
 
-  pub listed-answer : isLegal (decodeOf (alone p)) ≡ true
+  pub listed-answer : isLegal (decodeOf (text1 p)) ≡ true
   unfolding onList
-  listed-answer = and-right (ltb p 0x8000) (isLegal (decodeOf (alone p))) h
+  listed-answer = and-right (ltb p 0x8000) (isLegal (decodeOf (text1 p))) h
 
   pub listed-legal : LegalParcel p
   listed-legal =
       record {
-        notIllegal = λ e. answer-legal (decodeOf (alone p)) Illegal listed-answer refl e;
-        notUnimplemented = λ v e. answer-legal (decodeOf (alone p)) (Unimplemented v) listed-answer refl e;
+        notIllegal = λ e. answer-legal (decodeOf (text1 p)) Illegal listed-answer refl e;
+        notUnimplemented = λ v e. answer-legal (decodeOf (text1 p)) (Unimplemented v) listed-answer refl e;
       }
 
 prefix-legal : LegalParcel cpuPrefix
@@ -129,7 +130,7 @@ module _ (k : ℕ) (h : k < count) where
   lies = line-at parcels k h
 
   starts : k * lineSize ≡ length front
-  starts = sym (before-line parcels k h)
+  starts = sym (first-lines parcels k (omega arith))
 
   line-parcel : parcelAt listing k ≡ parcel
   line-parcel =
@@ -152,10 +153,10 @@ found-in : (p : ℕ) → onList p ≡ true → HasLine listing count p
 unfolding parcels
 found-in p h =
     let f = place-of parcelCount 0 p (omega arith) (omega (arith, listed-below p h)) h in
-    record { line = f .place; within = f .within; parcel = line-parcel (f .place) (f .within) ∙ f .there }
+    record { place = f .place; within = f .within; number = line-parcel (f .place) (f .within) ∙ f .number }
 
 in-list : (p : ℕ) → HasLine listing count p → onList p ≡ true
-in-list p l = ap onList (sym (l .parcel) ∙ line-parcel (l .line) (l .within)) ∙ on (l .line) (l .within)
+in-list p l = ap onList (sym (l .number) ∙ line-parcel (l .place) (l .within)) ∙ on (l .place) (l .within)
 
 size : length listing ≡ count * lineSize
 unfolding parcels
@@ -174,19 +175,18 @@ listing-is =
       listedLegal = λ p h l. listed-legal p (in-list p l);
       noOther = λ p l. listed-below p (in-list p l);
       rising = rises;
-      once = λ j k g h e. rising-once (λ i. parcelAt listing i) count rises j k g h e;
+      once = λ j k g h e. rising-once (parcelAt listing) count rises j k g h e;
       prefix = found-in cpuPrefix (legal-listed cpuPrefix (omega arith) prefix-legal);
     }
 
 -- ---- no other
 
 module _ (s t : List ℕ) (x : IsList s) (y : IsList t) where
-  parcel-among : (k : ℕ) → k < x .count → Among (λ i. parcelAt t i) (y .count) (parcelAt s k)
-  parcel-among k h =
-      let l : HasLine s (x .count) (parcelAt s k) = record { line = k; within = h; parcel = refl } in
+  line-of-other : (k : ℕ) → k < x .count → HasLine t (y .count) (parcelAt s k)
+  line-of-other k h =
+      let l : HasLine s (x .count) (parcelAt s k) = record { place = k; within = h; number = refl } in
       let b = x .noOther (parcelAt s k) l in
-      let f = y .legalListed (parcelAt s k) b (x .listedLegal (parcelAt s k) b l) in
-      record { place = f .line; within = f .within; number = f .parcel }
+      y .legalListed (parcelAt s k) b (x .listedLegal (parcelAt s k) b l)
 
   -- line k of both
   module _ (k : ℕ) (h : k < x .count) (g : k < y .count) (e : parcelAt s k ≡ parcelAt t k) where
@@ -220,10 +220,10 @@ module _ (s t : List ℕ) (x : IsList s) (y : IsList t) where
 
 pub one-list : OneList
 one-list s t x y =
-    let f : ℕ → ℕ = λ i. parcelAt s i in
-    let g : ℕ → ℕ = λ i. parcelAt t i in
-    let fg = parcel-among s t x y in
-    let gf = parcel-among t s y x in
+    let f = parcelAt s in
+    let g = parcelAt t in
+    let fg = line-of-other s t x y in
+    let gf = line-of-other t s y x in
     let c : x .count ≡ y .count = rising-count f g (x .count) (y .count) (x .rising) (y .rising) fg gf in
     ext-getD 0 s t (x .size ∙ ap (λ (n : ℕ). n * lineSize) c ∙ sym (y .size))
     (λ i h. let k : ℕ = i / lineSize in

@@ -7,7 +7,7 @@ use mathlib.Core.List.{List, [], _∷_, _++_}
 use native.Mathlib.Nat.{zero-add}
 use native.Mathlib.Omega.{arith}
 use lib.ListN.{length, take, drop, getD, length-take, length-drop, drop-of-length-le}
-use lib.Seq.{take-suc, take-all, drop-cons, length-take-le}
+use lib.Seq.{take-suc, take-all, drop-cons}
 use lib.Dec.{ltb}
 use borrow.Author.Tests.{ltb-true, ltb-false}
 use Rattle.word.proofs.CaseLaws.{by-test}
@@ -16,7 +16,7 @@ use Rattle.hex.proofs.OutputLaws.{length-written, written-on, fits, shown}
 use Rattle.parcels_listing.specs.Listing.{onList, parcelCount, listedOf, listedFrom, lineSize, parcelLine, parcelLines}
 use Rattle.parcels_listing.specs.Portions.{Portion, portion, lineRoom, nextOf, portionOf}
 use Rattle.parcels_listing.proofs.ListingLaws.{none-from, listed-from, unlisted-from, member-at, rising-list, from-place}
-use Rattle.parcels_listing.proofs.LineLaws.{lines-append, length-lines, one-line}
+use Rattle.parcels_listing.proofs.LineLaws.{lines-append, length-lines, first-lines, one-line}
 
 -- what stands at a place of a list and after it
 module _ (l : List ℕ) (k q : ℕ) (r : List ℕ) (e : drop k l ≡ q ∷ r) where
@@ -78,7 +78,7 @@ module _ (first : ℕ) (o : List ℕ) where
       let l = listedFrom first in
       let k = f .count in
       let g : drop k l ≡ p ∷ listedFrom (p + 1) = f .rest ∙ listed-from p h e in
-      let z : length (parcelLines (take k l)) ≡ place = length-lines (take k l) ∙ ap (λ (n : ℕ). n * lineSize) (length-take-le k l (f .known)) ∙ sym (f .upto) in
+      let z : length (parcelLines (take k l)) ≡ place = first-lines l k (f .known) ∙ sym (f .upto) in
       record {
         count = suc k;
         upto = omega (arith, f .upto);
@@ -101,7 +101,7 @@ module _ (first : ℕ) (o : List ℕ) where
     filled-output : output x place ≡ printed (parcelLines (take (f .count) (listedFrom first))) (output o 0)
     filled-output =
         let l = listedFrom first in
-        let z : place ≡ length (parcelLines (take (f .count) l)) = f .upto ∙ sym (length-lines (take (f .count) l) ∙ ap (λ (n : ℕ). n * lineSize) (length-take-le (f .count) l (f .known))) in
+        let z : place ≡ length (parcelLines (take (f .count) l)) = f .upto ∙ sym (first-lines l (f .count) (f .known)) in
         ap (output x) (sym (zero-add place)) ∙ fits (parcelLines (take (f .count) l)) o 0 x place z (omega (arith, f .fit)) (f .bytes)
 
     -- no room for another line

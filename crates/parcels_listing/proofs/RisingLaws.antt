@@ -6,15 +6,10 @@ use native.Mathlib.Omega.{arith}
 use lib.Dec.{ltb}
 use borrow.Author.Tests.{ltb-true, ltb-false}
 use Rattle.word.proofs.CaseLaws.{by-test}
+use Rattle.parcels_listing.specs.OneParcelList.{Among}
 
 abbrev pub Ascending : (ℕ → ℕ) → ℕ → Type 0
 Ascending f m = (j k : ℕ) → j < k → k < m → f j < f k
-
--- a number of a sequence of n numbers
-pub record Among (g : ℕ → ℕ) (n x : ℕ) : Type 0 where
-  pub place : ℕ
-  pub within : place < n
-  pub number : g place ≡ x
 
 module _ (f : ℕ → ℕ) (m : ℕ) (r : Ascending f m) where
   rising-le : (j k : ℕ) → j ≤ k → k < m → f j ≤ f k

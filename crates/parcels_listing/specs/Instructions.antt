@@ -11,17 +11,17 @@ use Rattle.isa.specs.declared.Decoded.the-variants.{Is}
 use Rattle.isa.specs.declared.Encoded.the-variants.{Parcels}
 use Rattle.isa.specs.Lengths.{shortLength}
 use Rattle.isa.specs.Decode.{cpuPrefix, decodeOf, textOf}
-use Rattle.isa.specs.Encode.{encodeOf}
-use Rattle.parcels_listing.specs.Listing.{alone, onList}
+use Rattle.isa.specs.Encode.{text1, encodeOf}
+use Rattle.parcels_listing.specs.Listing.{onList}
 
 -- the instruction that a parcel is
 pub record OneParcel (p : ℕ) : Type 0 where
   pub instruction : Instruction
   pub decoded : (rest : List ℕ) → decodeOf (textOf (p ∷ rest)) ≡ Is instruction shortLength
-  pub encoded : encodeOf instruction shortLength ≡ Parcels (alone p)
+  pub encoded : encodeOf instruction shortLength ≡ Parcels (text1 p)
 
 pub record Instructions : Type 0 where
   pub listed : (p : ℕ) → onList p ≡ true → (p ≡ cpuPrefix → ⊥) → OneParcel p
   -- whatever text begins with an instruction of one parcel
   pub decodedListed : (t : Text) (i : Instruction) → decodeOf t ≡ Is i shortLength → onList (t .p0) ≡ true
-  pub encodedListed : (p : ℕ) (i : Instruction) → encodeOf i shortLength ≡ Parcels (alone p) → onList p ≡ true
+  pub encodedListed : (p : ℕ) (i : Instruction) → encodeOf i shortLength ≡ Parcels (text1 p) → onList p ≡ true

@@ -5,19 +5,15 @@ use Prim.Native.Nat.{ℕ, zero, suc, _-_}
 use mathlib.Core.Bool.{Bool, true, false, cond, _&&_}
 use mathlib.Core.List.{List, [], _∷_, _++_}
 use lib.Dec.{ltb}
-use Rattle.isa.specs.declared.Text.{Text}
 use Rattle.isa.specs.declared.Decoded.{Decoded}
 use Rattle.isa.specs.declared.Decoded.the-variants.{Is, Illegal, Unimplemented, Truncated}
 use Rattle.isa.specs.Fields.{shortOpcode, shortOperands}
-use Rattle.isa.specs.Decode.{decodeOf, textOf}
+use Rattle.isa.specs.Decode.{decodeOf}
+use Rattle.isa.specs.Encode.{text1}
 use Rattle.hex.specs.Digits.{digits}
 use Rattle.hex.specs.Output.{newline}
 
 -- ---- which parcels
-
--- a text of one parcel
-abbrev pub alone : ℕ → Text
-alone p = textOf (p ∷ [])
 
 -- "the decoder doesn't call it illegal or unimplemented"; a CPU prefix alone is cut text, which is neither: "The CPU prefix is listed
 -- as itself"
@@ -27,9 +23,9 @@ isLegal Illegal = false
 isLegal (Unimplemented v) = false
 isLegal Truncated = true
 
--- "A parcel whose top bit is 0 is on the list exactly when ..; no other parcel is"
+-- "A parcel whose top bit is 0 is on the list exactly when ..; no other parcel is": by the answer to it alone
 unfoldable pub onList : ℕ → Bool
-onList p = ltb p 0x8000 && isLegal (decodeOf (alone p))
+onList p = ltb p 0x8000 && isLegal (decodeOf (text1 p))
 
 -- how many parcels there are
 abbrev pub parcelCount : ℕ

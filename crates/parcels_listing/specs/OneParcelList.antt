@@ -8,9 +8,10 @@ use lib.ListN.{length, getD}
 use Rattle.isa.specs.declared.Decoded.the-variants.{Illegal, Unimplemented}
 use Rattle.isa.specs.Fields.{shortOpcode, shortOperands}
 use Rattle.isa.specs.Decode.{cpuPrefix, decodeOf}
+use Rattle.isa.specs.Encode.{text1}
 use Rattle.hex.specs.Digits.{isDigit, numberAt}
 use Rattle.hex.specs.Output.{newline}
-use Rattle.parcels_listing.specs.Listing.{alone, lineSize}
+use Rattle.parcels_listing.specs.Listing.{lineSize}
 
 -- ---- the numbers of line k, the first being line 0: "parcel (4), opcode (2), operand bits (3)"
 
@@ -27,16 +28,20 @@ module _ (text : List ℕ) (k : ℕ) where
 -- ---- "the decoder doesn't call it illegal or unimplemented"
 
 pub record LegalParcel (p : ℕ) : Type 0 where
-  pub notIllegal : decodeOf (alone p) ≡ Illegal → ⊥
-  pub notUnimplemented : (v : ℕ) → decodeOf (alone p) ≡ Unimplemented v → ⊥
+  pub notIllegal : decodeOf (text1 p) ≡ Illegal → ⊥
+  pub notUnimplemented : (v : ℕ) → decodeOf (text1 p) ≡ Unimplemented v → ⊥
 
 -- ---- the list
 
+-- x is one of the first n numbers of a sequence
+pub record Among (f : ℕ → ℕ) (n x : ℕ) : Type 0 where
+  pub place : ℕ
+  pub within : place < n
+  pub number : f place ≡ x
+
 -- one of the lines of a text, of so many, has the parcel p
-pub record HasLine (text : List ℕ) (count p : ℕ) : Type 0 where
-  pub line : ℕ
-  pub within : line < count
-  pub parcel : parcelAt text line ≡ p
+abbrev pub HasLine : List ℕ → ℕ → ℕ → Type 0
+HasLine text count p = Among (parcelAt text) count p
 
 pub record IsList (text : List ℕ) : Type 0 where
   -- how many lines

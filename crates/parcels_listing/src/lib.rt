@@ -1,16 +1,16 @@
 // The list of every one-parcel instruction: which parcels are on it, the line of one, and the lines that a lent buffer has
 // room for.
-use decode::decode_text;
+use decode::decode;
 use decode::fields::short_opcode;
 use decode::fields::short_operands;
 use hex::put_digits;
 use isa::Decoded;
-use isa::Text;
+use word::fields::form_bits;
 ghost use mathlib.Core.Path.{_≡_};
 ghost use Prim.Native.Nat.{_+_, _≤_};
 ghost use lib.ListN.{length};
 ghost use Rattle.hex.specs.Output.{output, written};
-ghost use Rattle.parcels_listing.specs.Listing.{alone as aloneOf, isLegal, onList, lineSize, parcelLine};
+ghost use Rattle.parcels_listing.specs.Listing.{isLegal, onList, lineSize, parcelLine};
 ghost use Rattle.parcels_listing.specs.Portions.{portion, portionOf};
 
 // A parcel is below this.
@@ -26,21 +26,6 @@ pub struct ListState {
     pub place: usize,
 }
 
-// A text of one parcel.
-fn alone(p: u16) -> Text
-    ensures { λ r. ⌜ r ≡ aloneOf p ⌝ }
-{
-    Text {
-        count: 1,
-        p0: p,
-        p1: 0,
-        p2: 0,
-        p3: 0,
-        p4: 0,
-        p5: 0,
-    }
-}
-
 // A prefix alone is cut text.
 fn is_legal(d: Decoded) -> bool
     ensures { λ r. ⌜ r ≡ isLegal d ⌝ }
@@ -53,12 +38,12 @@ fn is_legal(d: Decoded) -> bool
     }
 }
 
-// Whether a parcel is on the list.
+// Whether a parcel is on the list: its top bit is 0, and it is legal alone.
 pub fn on_list(p: u16) -> bool
     ensures { λ r. ⌜ r ≡ onList p ⌝ }
 {
-    if p < 0x8000 {
-        is_legal(decode_text(alone(p)))
+    if form_bits(p) < 2 {
+        is_legal(decode(&[p]))
     } else {
         false
     }

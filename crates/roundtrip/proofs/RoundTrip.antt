@@ -46,7 +46,7 @@ short-first p j e =
     (λ u. let q : Truncated ≡ withLength j = simp (t, s, u) at e in let z : _≡_ {A = ℕ} 0 1 = cc in absurd (omega arith))
     (λ u. let q : Truncated ≡ withLength j = simp (t, s, u) at e in let z : _≡_ {A = ℕ} 0 1 = cc in absurd (omega arith))))
 
-short-text : (n p a b c d e : ℕ) → 1 ≤ n → p < 0x8000 → (p ≡ cpuPrefix → ⊥)
+pub short-text : (n p a b c d e : ℕ) → 1 ≤ n → p < 0x8000 → (p ≡ cpuPrefix → ⊥)
     → decodeOf (record { count = n; p0 = p; p1 = a; p2 = b; p3 = c; p4 = d; p5 = e }) ≡ decodeShort p
 unfolding decodeOf decodeBare
 short-text n p a b c d e h l k = simp (le-ltb n 1 h, ne-eqb p cpuPrefix k, lt-ltb p 0x8000 l)

@@ -1,13 +1,20 @@
 -- Masks and shifts as quotients and remainders.
 -- Assumes nothing.
 use mathlib.Core.Path.{_≡_, sym, ap, _∙_}
-use Prim.Native.Nat.{ℕ, max, _+_, _-_, _*_, _/_, _%_, _^_, _≤_, _<_}
-use native.Mathlib.Nat.{one-mul, add-zero, mod-lt, mod-eq-of-lt}
+use Prim.Native.Nat.{ℕ, zero, suc, max, _+_, _-_, _*_, _/_, _%_, _^_, _≤_, _<_}
+use native.Mathlib.Nat.{one-mul, add-zero, zero-mul, suc-mul, mod-lt, mod-eq-of-lt, pow-zero, pow-suc}
 use native.Mathlib.Omega.{arith}
 use lib.Dec.{lit<}
-use lib.Pow.{pow-pos, shl-exact, split}
+use lib.Pow.{pow-pos, pow-add, shl-exact, split}
 use lib.Bits.{bitAnd, bitOr, and-mask, or-step, or-zero-r, or-block, or-shifted}
 use Rattle.word.specs.Fields.{fieldOf, setOf, joinedOf, clearedOf}
+
+-- n digits of k bits each are n * k bits
+pub digits-pow : (k n : ℕ) → (2 ^ k) ^ n ≡ 2 ^ (n * k)
+digits-pow k zero = pow-zero (2 ^ k) ∙ ap (λ (x : ℕ). 2 ^ x) (sym (zero-mul k))
+digits-pow k (suc n) =
+    let e : n * k + k ≡ suc n * k = sym (suc-mul n k) in
+    pow-suc (2 ^ k) n ∙ ap (λ (x : ℕ). x * 2 ^ k) (digits-pow k n) ∙ sym (pow-add 2 (n * k) k) ∙ ap (λ (x : ℕ). 2 ^ x) e
 
 -- 1 << n at 32 bits
 pub shl-one : (n : ℕ) → n < 32 → 1 * 2 ^ n % 2 ^ 32 ≡ 2 ^ n
