@@ -12,12 +12,13 @@ use Rattle.word.specs.declared.Width.the-variants.{Byte, Half, Word}
 use Rattle.word.specs.Widths.{bytesOf}
 use Rattle.word.specs.Sums.{plusOf, minusOf}
 use Rattle.memory.specs.Answers.{Answer, good, raised}
+use Rattle.memory.specs.Exceptions.{alignmentFault}
 use Rattle.access_spec.specs.Access.{Access, read, write, probe}
 use Rattle.machine.specs.Registers.{fault}
 use Rattle.machine.specs.Cache.{Cache, cacheRead}
 use Rattle.machine.proofs.CacheLaws.{read-lt}
 use Rattle.machine.specs.Status.{Cpu, with, cached, regime, kernelRegime}
-use Rattle.datapath.specs.Parts.{faulted, replied, request, frameRequest, frameReplied}
+use Rattle.datapath.specs.Parts.{faulted, replied, request, resets, frameRequest, frameReplied}
 use Rattle.datapath.specs.Data.{place, isAligned, readCached, readMemory, readData, writeCached, writeMemory, writeData, readFrame, writeFrame, checkStore}
 use Rattle.access_spec.proofs.BoundedLaws.{Any}
 use Rattle.invariants.proofs.RuleLaws.{Rules, AnswersAllowed, Value, ResultsAllowed, Part, bind, gives, stops, either, some}
@@ -49,23 +50,23 @@ module _ (k : Rules) where
     where
       go : (r : Answer) → AnswersAllowed k q r → ResultsAllowed k (λ v. AnswersAllowed k q (good v)) (replied c a r)
       go (good x) d = d
-      go (raised e) d = fault-holds c e a h v
+      go (raised e) d = (d, fault-holds c e a h v)
 
-  frame-part : (c : Cpu) (q : Access) → k .Holds c → k .Asks q → Part k (λ v. AnswersAllowed k q (good v)) 1 (frameRequest c q)
+  frame-part : (c : Cpu) (q : Access) → k .Free → k .Holds c → Part k (λ v. AnswersAllowed k q (good v)) 1 (frameRequest c q)
   unfolding frameRequest
-  frame-part c q h g = record { within = (g, go) }
+  frame-part c q f h = record { within = (k .anything f q, go) }
     where
       go : (r : Answer) → AnswersAllowed k q r → ResultsAllowed k (λ v. AnswersAllowed k q (good v)) (frameReplied c r)
       go (good x) d = d
-      go (raised e) d = h
+      go (raised e) d = (k .raisesAll f resets, h)
 
   pub read-frame : (c : Cpu) (a : ℕ) → k .Free → k .Holds c → Part k (Value k) 1 (readFrame c a)
   unfolding readFrame
-  read-frame c a f h = frame-part c (read (kernelRegime (c .bank)) Word a) h (k .anything f _)
+  read-frame c a f h = frame-part c (read (kernelRegime (c .bank)) Word a) f h
 
   pub write-frame : (c : Cpu) (a v : ℕ) → k .Free → k .Holds c → Part k Any 1 (writeFrame c a v)
   unfolding writeFrame
-  write-frame c a v f h = some (frame-part c (write (kernelRegime (c .bank)) Word a v) h (k .anything f _))
+  write-frame c a v f h = some (frame-part c (write (kernelRegime (c .bank)) Word a v) f h)
 
   -- ---- data
 
@@ -78,14 +79,14 @@ module _ (k : Rules) where
   unfolding readData readCached readMemory
   read-data c w a h v =
       either (cached (c .bank) a)
-      (λ _. either (isAligned w a) (λ _. gives (read-cached w (c .cache) (place c w a))) (λ _. stops h))
+      (λ _. either (isAligned w a) (λ _. gives (read-cached w (c .cache) (place c w a))) (λ _. stops (k .raises alignmentFault refl) h))
       (λ _. request-part c (read (regime (c .bank)) w (place c w a)) a h (k .asks c _ h refl) v)
 
   pub write-data : (c : Cpu) (w : Width) (a v : ℕ) → k .Holds c → Value k a → Part k (k .Holds) 1 (writeData c w a v)
   unfolding writeData writeCached writeMemory
   write-data c w a v h l =
       either (cached (c .bank) a)
-      (λ _. either (isAligned w a) (λ _. gives (k .stored c w (place c w a) v h)) (λ _. stops h))
+      (λ _. either (isAligned w a) (λ _. gives (k .stored c w (place c w a) v h)) (λ _. stops (k .raises alignmentFault refl) h))
       (λ _. bind (request-part c (write (regime (c .bank)) w (place c w a) v) a h (k .asks c _ h refl) l) λ _ _. gives {n = 0} h)
 
   pub check-store : (c : Cpu) (a : ℕ) → k .Holds c → Value k a → Part k Any 1 (checkStore c a)

@@ -13,6 +13,7 @@ use Rattle.word.specs.Sums.{plusOf}
 use Rattle.isa.specs.declared.Operand.{Operand}
 use Rattle.isa.specs.declared.Wide.{Wide}
 use Rattle.isa.specs.Legal.{ofMode, doubleWord}
+use Rattle.memory.specs.Exceptions.{alignmentFault, zeroDivide}
 use Rattle.machine.specs.Registers.{psw}
 use Rattle.machine.specs.Status.{Cpu, reg}
 use Rattle.exec_spec.specs.declared.Operation.{Operation}
@@ -59,7 +60,7 @@ module _ (k : Rules) where
 
   read-many : (c : Cpu) (n : ℕ) (p : Place) → k .Holds c → PlaceFits k p → Part k (λ xs. length xs ≡ n) n (readMany c n p)
   unfolding readMany
-  read-many c n (inMemory m a) h f = either (eqb (a % (n * 4)) 0) (λ _. read-words c a n h f) (λ _. stops h)
+  read-many c n (inMemory m a) h f = either (eqb (a % (n * 4)) 0) (λ _. read-words c a n h f) (λ _. stops (k .raises alignmentFault refl) h)
   read-many c n (inRegister r) h f = gives (copies-long n (reg c r))
   read-many c n (literal v) h f = gives (copies-long n v)
 
@@ -72,7 +73,8 @@ module _ (k : Rules) where
 
   write-many : (c : Cpu) (n : ℕ) (p : Place) (xs : List ℕ) → k .Holds c → PlaceFits k p → Part k (k .Holds) (length xs) (writeMany c n p xs)
   unfolding writeMany
-  write-many c n (inMemory m a) xs h f = either (eqb (a % (n * 4)) 0) (λ _. write-words c a xs h f) (λ _. stops h)
+  write-many c n (inMemory m a) xs h f =
+      either (eqb (a % (n * 4)) 0) (λ _. write-words c a xs h f) (λ _. stops (k .raises alignmentFault refl) h)
   write-many c n (inRegister r) xs h f = gives h
   write-many c n (literal v) xs h f = gives h
 
@@ -87,7 +89,7 @@ module _ (k : Rules) where
 
   check-divisor : (c : Cpu) (op : Operation) (x : ℕ) → k .Holds c → Part k (k .Holds) 0 (checkDivisor c op x)
   unfolding checkDivisor
-  check-divisor c op x h = either (divides op && eqb x 0) (λ _. stops h) (λ _. gives h)
+  check-divisor c op x h = either (divides op && eqb x 0) (λ _. stops (k .raises zeroDivide refl) h) (λ _. gives h)
 
   write-tagged : (c : Cpu) (t : Tagged) (p : Place) → k .Holds c → PlaceFits k p → Part k (k .Holds) 1 (writeTagged c t p)
   unfolding writeTagged

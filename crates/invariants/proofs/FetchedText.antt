@@ -12,7 +12,7 @@ use Rattle.isa.proofs.Carried.{carried-length}
 use Rattle.access_spec.proofs.BoundedLaws.{Any, within-bounded, bounded-result}
 use Rattle.datapath.specs.Text.{fetchText}
 use Rattle.invariants.specs.FetchedText.{AsCarried, FetchedText}
-use Rattle.invariants.proofs.RuleLaws.{AnswersAllowed, ResultsAllowed}
+use Rattle.invariants.proofs.RuleLaws.{AnswersAllowed, any-answer, ResultsAllowed}
 use Rattle.invariants.proofs.TextLaws.{TextFits, fetch-text}
 use Rattle.invariants.proofs.CountLaws.{anything-goes}
 
@@ -26,6 +26,6 @@ pub fetched-text : FetchedText
 fetched-text W h c w t e =
     let f = subst (ResultsAllowed anything-goes TextFits) e
     (bounded-result h Any (ResultsAllowed anything-goes TextFits) 6 (fetchText c) w
-    (within-bounded Any (AnswersAllowed anything-goes) (ResultsAllowed anything-goes TextFits) 6 (fetchText c) (λ q r b. absurd b)
+    (within-bounded Any (AnswersAllowed anything-goes) (ResultsAllowed anything-goes TextFits) 6 (fetchText c) (any-answer anything-goes (λ w. w) (λ e. tt))
     (fetch-text anything-goes c tt .within))) in
     as-carried t _ (decodeOf t) (f .called) (carried-length t)

@@ -1,12 +1,14 @@
 -- Frames on the interrupt stack, KCALL, KRET, CRET and the event sequences keep to the rules, where all accesses are allowed.
 -- Assumes nothing.
 use Prim.Native.Nat.{ℕ}
+use mathlib.Core.Path.{refl}
 use native.Mathlib.Omega.{arith}
 use lib.Dec.{T, lit<}
 use Rattle.word.specs.Fields.{bitOf}
 use Rattle.word.specs.declared.Width.the-variants.{Word}
 use Rattle.word.specs.Sums.{plusOf}
 use Rattle.isa.specs.declared.MonadicMode.{MonadicMode}
+use Rattle.memory.specs.Exceptions.{privilegeViolation}
 use Rattle.access_spec.specs.Program.{Program}
 use Rattle.machine.specs.Registers.{config, isp, msp, pc, psw, shad, sp, traceDue, timer1Due, timer2Due, unreserved}
 use Rattle.machine.specs.Status.{Cpu, reg, with, spCurrent, isUser}
@@ -23,7 +25,7 @@ use Rattle.invariants.proofs.StackLaws.{catch-to}
 pub privileged-part : (k : Rules) (c : Cpu) (n : ℕ) (p : Program (Out Cpu)) → k .Holds c → (k .Free → Part k (k .Holds) n p)
     → Part k (k .Holds) n (privileged c p)
 unfolding privileged
-privileged-part k c n p h f = either (isUser (c .bank)) (λ _. stops h) (λ e. f (k .kernel c h e))
+privileged-part k c n p h f = either (isUser (c .bank)) (λ _. stops (k .raises privilegeViolation refl) h) (λ e. f (k .kernel c h e))
 
 module _ (k : Rules) (free : k .Free) where
   -- ---- frames and vectors

@@ -10,16 +10,17 @@ use lib.ListN.{getD, set}
 use lib.Seq.{getD-set-other}
 use Rattle.word.specs.Fields.{bitOf}
 use Rattle.mmu.specs.declared.Regime.{Regime}
-use Rattle.access_spec.specs.Access.{regimeOf}
-use Rattle.access_spec.proofs.BoundedLaws.{Any, Bounded, within-more, within-bounded}
+use Rattle.access_spec.specs.Access.{Access, regimeOf}
+use Rattle.access_spec.specs.Program.{Handler, interpret}
+use Rattle.access_spec.proofs.BoundedLaws.{Any, Bounded, within-more, within-bounded, within-result}
 use Rattle.machine.specs.Registers.{Bank, word, psw, stb}
 use Rattle.machine.specs.Status.{Cpu, isUser, isVirtual, regime}
 use Rattle.datapath.specs.Parts.{Out}
 use Rattle.step_spec.specs.Events.{looked}
 use Rattle.step_spec.specs.Step.{traceFalls, stepped, timed}
 use Rattle.run_spec.specs.Run.{ConfinedActed, confinedAttempt}
-use Rattle.invariants.proofs.RuleLaws.{Rules, AnswersAllowed, Alike, plainly}
-use Rattle.invariants.proofs.StepLaws.{Leaves, looked-holds, trace-holds, timed-holds, confined-part}
+use Rattle.invariants.proofs.RuleLaws.{Rules, ConfinedException, AnswerIn, AnswersAllowed, any-answer, Alike, plainly}
+use Rattle.invariants.proofs.StepLaws.{EndsIn, Leaves, looked-holds, trace-holds, timed-holds, confined-ends, confined-part}
 
 -- ---- a bank with another word in one place
 
@@ -54,16 +55,20 @@ InRegime r = Leaves (λ d. regime (d .bank) ≡ r)
 -- ---- the regime of a machine at user level
 
 module _ (c : Cpu) (u : isUser (c .bank) ≡ true) where
-  abbrev fixed : Rules
-  fixed =
+  -- whose exceptions are in R, with all that a confined run may meet
+  abbrev fixedRaising : (R : ℕ → Type 0) → ((e : ℕ) → ConfinedException e → R e) → Rules
+  fixedRaising R f =
       record {
         Asks = λ q. regimeOf q ≡ regime (c .bank);
         Holds = λ d. regime (d .bank) ≡ regime (c .bank);
+        Raises = R;
         Free = ⊥;
         Words = ⊥;
         asks = λ d q h e. e ∙ h;
         anything = λ f q. absurd f;
         kernel = λ d h e. false≢true (sym e ∙ ap (λ (r : Regime). r .user) h ∙ u);
+        raises = f;
+        raisesAll = λ a e. absurd a;
         plain = λ d k v t h w. plain-regime (d .bank) k v t ∙ h;
         register = λ d k v t f h w. absurd f;
         status = λ d v h a. status-regime (d .bank) v a ∙ h;
@@ -72,9 +77,22 @@ module _ (c : Cpu) (u : isUser (c .bank) ≡ true) where
         words = λ d k h w. absurd w;
       }
 
+  abbrev fixed : Rules
+  fixed = fixedRaising Any (λ e l. tt)
+
   -- every access of an attempt goes as the machine it began with has it
   pub user-fixed : Bounded (λ q. regimeOf q ≡ regime (c .bank)) (InRegime (regime (c .bank))) 75 (confinedAttempt c)
-  user-fixed = within-bounded (fixed .Asks) (AnswersAllowed fixed) (InRegime (regime (c .bank))) 75 (confinedAttempt c) (λ q r w. absurd w) (confined-part fixed c refl)
+  user-fixed = within-bounded (fixed .Asks) (AnswersAllowed fixed) (InRegime (regime (c .bank))) 75 (confinedAttempt c) (any-answer fixed (λ w. w) (λ e. tt)) (confined-part fixed c refl)
+
+  -- and it ends by no other exception than a confined run's, in a world whose accesses raise no other
+  pub user-ends : {W : Type 0} (h : Handler W) → ((q : Access) (w : W) → AnswerIn ⊥ ConfinedException q (h q w .out)) → (w : W)
+      → EndsIn ConfinedException (λ d. regime (d .bank) ≡ regime (c .bank)) (interpret h (confinedAttempt c) w .out)
+  user-ends h f w =
+      within-result (raising .Asks) (AnswersAllowed raising) h Any (EndsIn ConfinedException (raising .Holds)) 75 (confinedAttempt c) w
+      (λ q w i. (f q w, tt)) tt (confined-ends raising c refl)
+    where
+      raising : Rules
+      raising = fixedRaising ConfinedException (λ e l. l)
 
   -- and what a step does beside it keeps the regime: the look for events, the trace, the timers
   pub looked-kept : (level : ℕ) → regime (looked level c .bank) ≡ regime (c .bank)

@@ -18,3 +18,5 @@ pub mod ShapeLaws
 pub mod WordLaws
 pub mod MemoryLaws
 pub mod FetchedText
+pub mod AmongLaws
+pub mod StopCodes

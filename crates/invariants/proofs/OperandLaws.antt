@@ -2,7 +2,7 @@
 -- Assumes nothing.
 use Prim.Native.Nat.{ℕ, zero, suc, _+_, _*_, _/_, _%_, _^_, _<_, _≤_}
 use mathlib.Core.Path.{_≡_, refl}
-use mathlib.Core.Bool.{Bool, true, false, cond, _&&_, _||_, true≢false}
+use mathlib.Core.Bool.{Bool, true, false, cond, _&&_, _||_, true≢false, false≢true}
 use mathlib.Core.List.{List, [], _∷_}
 use native.Mathlib.Nat.{mod-lt}
 use native.Mathlib.Omega.{arith}
@@ -18,6 +18,7 @@ use Rattle.isa.specs.declared.Operand.the-variants.{General, Register}
 use Rattle.isa.specs.declared.Wide.{Wide}
 use Rattle.isa.specs.declared.Wide.the-variants.{Three, Five}
 use Rattle.isa.specs.Legal.{isRegister}
+use Rattle.memory.specs.Exceptions.{privilegeViolation, unimplementedRegister}
 use Rattle.machine.specs.Registers.{config, id, isp, pc, msp, shad, sp, lowBits, bitCounts, unreserved, bankSize, traceDue, prefixedRegisters, registerOf}
 use Rattle.machine.specs.Status.{Cpu, reg, with, csp, isUser}
 use Rattle.word.specs.Sums.{plusOf}
@@ -166,16 +167,25 @@ module _ (k : Rules) where
   pub check-registers : (c : Cpu) (s d : Operand) → k .Holds c → Part k (λ e. k .Holds e × (Named k s × Named k d)) 0 (checkRegisters c s d)
   unfolding checkRegisters
   check-registers c s d h =
-      either (isUser (c .bank) && (isRegister s || isRegister d)) (λ _. stops h)
-      (λ e. either (missing s || missing d) (λ _. stops h)
+      either (isUser (c .bank) && (isRegister s || isRegister d)) (λ _. stops (k .raises privilegeViolation refl) h)
+      (λ e. either (missing s || missing d) (λ m. stops (k .raisesAll (looked-up s d e m) unimplementedRegister) h)
       (λ m. gives (h, go s d e (or-left (missing s) (missing d) m) (or-right (missing s) (missing d) m))))
     where
       level : (b : Bool) → (b && true) ≡ false → b ≡ false
       level true e = e
       level false e = refl
 
+      free : (isUser (c .bank) && true) ≡ false → k .Free
+      free e = k .kernel c h (level (isUser (c .bank)) e)
+
       named : (n : ℕ) → (isUser (c .bank) && true) ≡ false → eqb (registerOf n) bankSize ≡ false → RegisterFits k (registerOf n)
-      named n e m = (k .kernel c h (level (isUser (c .bank)) e), register-at prefixedRegisters tt n m)
+      named n e m = (free e, register-at prefixedRegisters tt n m)
+
+      -- what is missing is a register, and at user level the check has stopped before it is looked for
+      looked-up : (s d : Operand) → (isUser (c .bank) && (isRegister s || isRegister d)) ≡ false → (missing s || missing d) ≡ true → k .Free
+      looked-up (General m v) (General n w) e x = absurd (false≢true x)
+      looked-up (General m v) (Register n) e x = free e
+      looked-up (Register m) d e x = free e
 
       go : (s d : Operand) → (isUser (c .bank) && (isRegister s || isRegister d)) ≡ false → missing s ≡ false → missing d ≡ false → Named k s × Named k d
       go (General m v) (General n w) e x y = (tt, tt)

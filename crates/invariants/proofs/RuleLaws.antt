@@ -18,6 +18,7 @@ use Rattle.machine.specs.Cache.{cacheWrite}
 use Rattle.machine.specs.Status.{Cpu, cpu, reg, with, isUser, regime}
 use Rattle.datapath.specs.Parts.{Out, ok, stop, onward, _>>=_, done}
 use Rattle.access_spec.proofs.BoundedLaws.{Within, within-more, within-after, within-weaker}
+use Rattle.invariants.specs.StopCodes.{isAmong, confinedExceptions}
 
 -- what may stand at a place of the bank: a word in a register, 1 or 0 where something is due
 abbrev pub suits : ℕ → ℕ → Bool
@@ -37,17 +38,26 @@ pub record Alike (x y : ℕ) : Type 0 where
   pub word : x < 2 ^ 32 → y < 2 ^ 32
 
 -- a read is answered by a word
-abbrev pub Sized : Access → Answer → Type 0
-Sized q (raised e) = Unit
-Sized (fetch r a) (good v) = Unit
-Sized (read r w a) (good v) = v < 2 ^ 32
-Sized (write r w a x) (good v) = Unit
-Sized (probe r a) (good v) = Unit
+abbrev pub Sized : Access → ℕ → Type 0
+Sized (fetch r a) v = Unit
+Sized (read r w a) v = v < 2 ^ 32
+Sized (write r w a x) v = Unit
+Sized (probe r a) v = Unit
 
--- what is asked for and what machines are left, and that the parts of instructions keep to it
+-- an exception that a confined run may meet
+abbrev pub ConfinedException : ℕ → Type 0
+ConfinedException e = isAmong e confinedExceptions ≡ true
+
+-- an answer of that kind where W holds, or an exception in R
+abbrev pub AnswerIn : Type 0 → (ℕ → Type 0) → Access → Answer → Type 0
+AnswerIn W R q (good v) = W → Sized q v
+AnswerIn W R q (raised e) = R e
+
+-- what is asked for, what machines are left and what exceptions are raised, and that the parts of instructions keep to it
 pub record Rules : Type 1 where
   pub Asks : Access → Type 0
   pub Holds : Cpu → Type 0
+  pub Raises : ℕ → Type 0
   -- that every access and every register is allowed: not so where the level is to stay the user's
   pub Free : Type 0
   -- that words are below 2 ^ 32
@@ -56,6 +66,9 @@ pub record Rules : Type 1 where
   pub asks : (c : Cpu) (q : Access) → Holds c → regimeOf q ≡ regime (c .bank) → Asks q
   pub anything : Free → (q : Access) → Asks q
   pub kernel : (c : Cpu) → Holds c → isUser (c .bank) ≡ false → Free
+  -- exceptions that come at any level, and the others: an unimplemented register, a reset
+  pub raises : (e : ℕ) → ConfinedException e → Raises e
+  pub raisesAll : Free → (e : ℕ) → Raises e
   -- places of the bank that decide no regime, all of them, and PSW with other flags
   pub plain : (c : Cpu) (k v : ℕ) → T (plainly k v) → Holds c → (Words → v < 2 ^ 32) → Holds (with c k v)
   pub register : (c : Cpu) (k v : ℕ) → T (suits k v) → Free → Holds c → (Words → v < 2 ^ 32) → Holds (with c k v)
@@ -66,17 +79,22 @@ pub record Rules : Type 1 where
       → Holds (cpu (c .bank) (set (c .cache) (a / 16 % 16) (w ∷ x ∷ y ∷ z ∷ [])))
   pub words : (c : Cpu) (k : ℕ) → Holds c → Words → reg c k < 2 ^ 32
 
--- as long as reads are answered by words
+-- as long as reads are answered by words, and accesses raise what parts may stop by
 abbrev pub AnswersAllowed : Rules → Access → Answer → Type 0
-AnswersAllowed k q r = k .Words → Sized q r
+AnswersAllowed k q r = AnswerIn (k .Words) (k .Raises) q r
+
+-- that is any answer, where nothing is asked of words and every exception may come
+pub any-answer : (k : Rules) → (k .Words → ⊥) → ((e : ℕ) → k .Raises e) → (q : Access) (r : Answer) → AnswersAllowed k q r
+any-answer k w f q (good v) = λ t. absurd (w t)
+any-answer k w f q (raised e) = f e
 
 abbrev pub Value : Rules → ℕ → Type 0
 Value k v = k .Words → v < 2 ^ 32
 
--- a result in P, or a stop with a machine that holds
+-- a result in P, or a stop by an exception that may come, with a machine that holds
 abbrev pub ResultsAllowed : {A : Type 0} → Rules → (A → Type 0) → Out A → Type 0
 ResultsAllowed k P (ok a) = P a
-ResultsAllowed k P (stop e c) = k .Holds c
+ResultsAllowed k P (stop e c) = k .Raises e × k .Holds c
 
 -- a part of an instruction: at most n accesses, a result in P, or a stop
 pub record Part {A : Type 0} (k : Rules) (P : A → Type 0) (n : ℕ) (p : Program (Out A)) : Type 0 where
@@ -99,8 +117,8 @@ module _ {k : Rules} {A : Type 0} {P : A → Type 0} where
   pub gives : {n : ℕ} {a : A} → P a → Part k P n (done a)
   gives h = record { within = h }
 
-  pub stops : {n : ℕ} {e : ℕ} {c : Cpu} → k .Holds c → Part k P n (ret (stop e c))
-  stops h = record { within = h }
+  pub stops : {n : ℕ} {e : ℕ} {c : Cpu} → k .Raises e → k .Holds c → Part k P n (ret (stop e c))
+  stops r h = record { within = (r, h) }
 
   pub either : {n : ℕ} (b : Bool) {p q : Program (Out A)} → (b ≡ true → Part k P n p) → (b ≡ false → Part k P n q) → Part k P n (cond b p q)
   either true f g = f refl

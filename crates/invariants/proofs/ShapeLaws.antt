@@ -16,7 +16,7 @@ use Rattle.machine.proofs.CacheLaws.{shape-set, shape-write}
 use Rattle.step_spec.specs.Events.{looked}
 use Rattle.step_spec.specs.Step.{traceFalls, Stepped, step, timed}
 use Rattle.run_spec.specs.Run.{confinedAttempt}
-use Rattle.invariants.proofs.RuleLaws.{Rules, AnswersAllowed, suits, plainly}
+use Rattle.invariants.proofs.RuleLaws.{Rules, AnswersAllowed, any-answer, suits, plainly}
 use Rattle.invariants.proofs.StepLaws.{SteppedHolds, Leaves, looked-holds, trace-holds, timed-holds, step-part, confined-part}
 
 -- the shape of a machine of the code
@@ -44,11 +44,14 @@ shaped =
     record {
       Asks = λ q. Unit;
       Holds = λ c. Shaped c;
+      Raises = λ e. Unit;
       Free = Unit;
       Words = ⊥;
       asks = λ c q h e. tt;
       anything = λ f q. tt;
       kernel = λ c h e. tt;
+      raises = λ e l. tt;
+      raisesAll = λ f e. tt;
       plain = λ c k v t h w. record { bank = plain-shape (c .bank) k v t (h .bank); cache = h .cache };
       register = λ c k v t f h w. record { bank = suits-shape (c .bank) k v t (h .bank); cache = h .cache };
       status = λ c v h a. record { bank = shape-register (c .bank) psw v (h .bank) (omega arith); cache = h .cache };
@@ -59,10 +62,10 @@ shaped =
 
 pub step-shaped : (level : ℕ) (c : Cpu) → Shaped c → Bounded Any (λ s. Shaped (s .cpu)) 79 (step level c)
 step-shaped level c h =
-    within-bounded Any (AnswersAllowed shaped) (SteppedHolds shaped) 79 (step level c) (λ q r w. absurd w) (step-part shaped tt level c h)
+    within-bounded Any (AnswersAllowed shaped) (SteppedHolds shaped) 79 (step level c) (any-answer shaped (λ w. w) (λ e. tt)) (step-part shaped tt level c h)
 
 pub confined-shaped : (c : Cpu) → Shaped c → Bounded Any (Leaves Shaped) 75 (confinedAttempt c)
-confined-shaped c h = within-bounded Any (AnswersAllowed shaped) (Leaves Shaped) 75 (confinedAttempt c) (λ q r w. absurd w) (confined-part shaped c h)
+confined-shaped c h = within-bounded Any (AnswersAllowed shaped) (Leaves Shaped) 75 (confinedAttempt c) (any-answer shaped (λ w. w) (λ e. tt)) (confined-part shaped c h)
 
 pub looked-shaped : (level : ℕ) (c : Cpu) → Shaped c → Shaped (looked level c)
 looked-shaped level c h = looked-holds shaped level c h

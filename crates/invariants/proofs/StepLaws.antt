@@ -1,7 +1,7 @@
 -- Every step and every attempt of a confined run keeps to the rules, in at most 79 and 75 accesses.
 -- Assumes nothing.
 use Prim.Native.Nat.{ℕ, _+_, _*_, _≤_}
-use mathlib.Core.Path.{_≡_, sym, _∙_}
+use mathlib.Core.Path.{_≡_, refl, sym, _∙_}
 use mathlib.Core.Bool.{Bool, true, false, cond, not, _&&_, false≢true}
 use native.Mathlib.Omega.{arith}
 use lib.Dec.{T, eqb, lit<}
@@ -17,12 +17,13 @@ use Rattle.machine.specs.Status.{Cpu, reg, with, isUser}
 use Rattle.datapath.specs.Parts.{Out, ok, stop, resets}
 use Rattle.exec_spec.specs.EventFrames.{exceptionSequence, reset}
 use Rattle.exec_spec.specs.Execute.{normal}
-use Rattle.memory.specs.Exceptions.{traceException}
+use Rattle.memory.specs.Exceptions.{traceException, illegalInstruction}
 use Rattle.step_spec.specs.Events.{Event, interrupt, timer1, timer2, trace, Due, none, due, dueOf, looked, take}
 use Rattle.step_spec.specs.Timers.{counts1, counts2, ticked, counted}
 use Rattle.step_spec.specs.Step.{Dispatch, toInstruction, toVector, dispatch, fetchInstruction, Acted, finished, sequenced, act, attempt, tracesAt, traceFalls, Stepped, stepped, settled, eventStep, exceptionStep, finish, instructionStep, stepFor, step, timed}
 use Rattle.run_spec.specs.Run.{ConfinedActed, carriedOut, fetched, isKcall, actConfined, confinedAttempt}
 use Rattle.access_spec.proofs.BoundedLaws.{Within, within-more, within-after, within-weaker}
+use Rattle.invariants.specs.StopCodes.{isAmong, fetchedCodes}
 use Rattle.invariants.proofs.RuleLaws.{plainly, Rules, AnswersAllowed, ResultsAllowed, Part, bind, more, gives, either}
 use Rattle.invariants.proofs.AccessLaws.{plus-value}
 use Rattle.invariants.proofs.TextLaws.{fetch-text}
@@ -45,9 +46,15 @@ SteppedHolds k s = k .Holds (s .cpu)
 
 abbrev ConfinedHolds : Rules → ConfinedActed → Type 0
 ConfinedHolds k (carriedOut t c) = k .Holds c
-ConfinedHolds k (fetched code) = Unit
+ConfinedHolds k (fetched code) = isAmong code fetchedCodes ≡ true
 
--- every machine that an attempt of a confined run leaves is in H
+-- an attempt of a confined run ends with a machine in H, with the code of what has only been fetched, or by an exception in R
+abbrev pub EndsIn : (ℕ → Type 0) → (Cpu → Type 0) → Out ConfinedActed → Type 0
+EndsIn R H (ok (carriedOut t c)) = H c
+EndsIn R H (ok (fetched code)) = isAmong code fetchedCodes ≡ true
+EndsIn R H (stop e c) = R e × H c
+
+-- every machine that it leaves is in H
 abbrev pub Leaves : (Cpu → Type 0) → Out ConfinedActed → Type 0
 Leaves H (ok (carriedOut t c)) = H c
 Leaves H (ok (fetched code)) = Unit
@@ -100,9 +107,9 @@ module _ (k : Rules) where
     where
       go : (a : Decoded) → AnswerFits a → Within (k .Asks) (AnswersAllowed k) (ResultsAllowed k DispatchFits) 0 (ret (dispatch c a))
       go (Is i n) f = f
-      go Illegal f = h
+      go Illegal f = (k .raises illegalInstruction refl, h)
       go (Unimplemented v) f = tt
-      go Truncated f = h
+      go Truncated f = (k .raises illegalInstruction refl, h)
 
   act-part : (c : Cpu) (m : Dispatch) → k .Free → k .Holds c → DispatchFits m → Part k (ActedHolds k) 69 (act c m)
   unfolding act
@@ -116,23 +123,34 @@ module _ (k : Rules) where
   try-part : (c : Cpu) (m : Dispatch) → k .Holds c → DispatchFits m → Part k (ConfinedHolds k) 69 (actConfined c m)
   unfolding actConfined
   try-part c (toInstruction i n) h f =
-      either (isKcall (normal i)) (λ _. gives tt) (λ e. bind (execute-part k c i n h f (λ g. absurd (apart e g))) λ d g. gives {n = 0} g)
+      either (isKcall (normal i)) (λ _. gives refl) (λ e. bind (execute-part k c i n h f (λ g. absurd (apart e g))) λ d g. gives {n = 0} g)
     where
       apart : isKcall (normal i) ≡ false → isKcall (normal i) ≡ true → ⊥
       apart e g = false≢true (sym e ∙ g)
-  try-part c (toVector v) h f = gives tt
+  try-part c (toVector v) h f = gives refl
 
-  pub confined-part : (c : Cpu) → k .Holds c → Within (k .Asks) (AnswersAllowed k) (Leaves (k .Holds)) 75 (confinedAttempt c)
+  pub confined-ends : (c : Cpu) → k .Holds c → Within (k .Asks) (AnswersAllowed k) (EndsIn (k .Raises) (k .Holds)) 75 (confinedAttempt c)
   unfolding confinedAttempt
-  confined-part c h = within-weaker (k .Asks) (AnswersAllowed k) (ResultsAllowed k (ConfinedHolds k)) (Leaves (k .Holds)) 75 (confinedAttempt c) leaves (tries .within)
+  confined-ends c h =
+      within-weaker (k .Asks) (AnswersAllowed k) (ResultsAllowed k (ConfinedHolds k)) (EndsIn (k .Raises) (k .Holds)) 75 (confinedAttempt c) ends
+      (tries .within)
     where
       tries : Part k (ConfinedHolds k) 75 (confinedAttempt c)
       tries = bind (fetch-part c h) λ m f. try-part c m h f
 
-      leaves : (o : Out ConfinedActed) → ResultsAllowed k (ConfinedHolds k) o → Leaves (k .Holds) o
+      ends : (o : Out ConfinedActed) → ResultsAllowed k (ConfinedHolds k) o → EndsIn (k .Raises) (k .Holds) o
+      ends (ok (carriedOut t d)) g = g
+      ends (ok (fetched code)) g = g
+      ends (stop e d) g = g
+
+  pub confined-part : (c : Cpu) → k .Holds c → Within (k .Asks) (AnswersAllowed k) (Leaves (k .Holds)) 75 (confinedAttempt c)
+  confined-part c h =
+      within-weaker (k .Asks) (AnswersAllowed k) (EndsIn (k .Raises) (k .Holds)) (Leaves (k .Holds)) 75 (confinedAttempt c) leaves (confined-ends c h)
+    where
+      leaves : (o : Out ConfinedActed) → EndsIn (k .Raises) (k .Holds) o → Leaves (k .Holds) o
       leaves (ok (carriedOut t d)) g = g
       leaves (ok (fetched code)) g = tt
-      leaves (stop e d) g = g
+      leaves (stop e d) g = g .1
 
   -- ---- the step
 
@@ -142,7 +160,7 @@ module _ (k : Rules) where
   module _ (free : k .Free) where
     settled-holds : (o : Out Cpu) → ResultsAllowed k (k .Holds) o → k .Holds (settled o)
     settled-holds (ok c) h = h
-    settled-holds (stop e c) h = reset-holds k free c h
+    settled-holds (stop e c) h = reset-holds k free c (h .1)
 
     settles : (n : ℕ) (p : Program (Out Cpu)) → n ≤ 4 → Part k (k .Holds) n p → Stepping 4 (after p (λ o. ret (stepped (settled o) false)))
     settles n p l t =
@@ -171,7 +189,7 @@ module _ (k : Rules) where
     unfolding finish
     finish-part p (ok (finished t c)) h = trace-holds (tracesAt p t) c h
     finish-part p (ok (sequenced c)) h = trace-holds (bitOf p 7) c h
-    finish-part p (stop e c) h = exception-step c e h
+    finish-part p (stop e c) h = exception-step c e (h .1)
 
     instruction-part : (c : Cpu) → k .Holds c → Stepping 79 (instructionStep c)
     unfolding instructionStep

@@ -63,7 +63,7 @@ module _ (k : Rules) where
     where
       go : (r : Answer) → AnswersAllowed k (fetch (regime (c .bank)) a) r → ResultsAllowed k (λ p. p < 2 ^ 16) (parcelReplied c r)
       go (good x) d = mod-lt x (pow-pos 16)
-      go (raised e) d = h
+      go (raised e) d = (d, h)
 
   fetch-parcels : (c : Cpu) (a n : ℕ) → k .Holds c → Part k (λ ps. Parcels ps × (length ps ≡ n)) n (fetchParcels c a n)
   unfolding fetchParcels

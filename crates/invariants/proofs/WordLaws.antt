@@ -18,7 +18,7 @@ use Rattle.machine.proofs.DigitLaws.{inserted-lt}
 use Rattle.step_spec.specs.Step.{step}
 use Rattle.run_spec.specs.Run.{confinedAttempt}
 use Rattle.access_spec.proofs.BoundedLaws.{Any, within-result}
-use Rattle.invariants.proofs.RuleLaws.{Rules, Sized, AnswersAllowed}
+use Rattle.invariants.proofs.RuleLaws.{Rules, AnswerIn, AnswersAllowed}
 use Rattle.invariants.proofs.StepLaws.{SteppedHolds, Leaves, step-part, confined-part}
 
 -- every word is one
@@ -57,11 +57,14 @@ worded =
     record {
       Asks = λ q. Unit;
       Holds = λ c. Worded c;
+      Raises = λ e. Unit;
       Free = Unit;
       Words = Unit;
       asks = λ c q h e. tt;
       anything = λ f q. tt;
       kernel = λ c h e. tt;
+      raises = λ e l. tt;
+      raisesAll = λ f e. tt;
       plain = λ c k v t h w. record { bank = set-bank (c .bank) k v (h .bank) (w tt); cache = h .cache };
       register = λ c k v t f h w. record { bank = set-bank (c .bank) k v (h .bank) (w tt); cache = h .cache };
       status = λ c v h a. record { bank = set-bank (c .bank) psw v (h .bank) (a .word (h .bank psw)); cache = h .cache };
@@ -72,13 +75,13 @@ worded =
 
 -- a world that answers reads by words, as long as I holds of it
 abbrev pub Answering : {W : Type 0} → Handler W → (W → Type 0) → Type 0
-Answering {W = W} h I = (q : Access) (w : W) → I w → Sized q (h q w .out) × I (h q w .world)
+Answering {W = W} h I = (q : Access) (w : W) → I w → AnswerIn Unit Any q (h q w .out) × I (h q w .world)
 
 module _ {W : Type 0} (h : Handler W) (I : W → Type 0) (a : Answering h I) (w : W) (i : I w) where
   pub step-worded : (level : ℕ) (c : Cpu) → Worded c → Worded (interpret h (step level c) w .out .cpu)
   step-worded level c g =
-      within-result Any (AnswersAllowed worded) h I (SteppedHolds worded) 79 (step level c) w (λ q w i. ((λ _. a q w i .0), a q w i .1)) i (step-part worded tt level c g)
+      within-result Any (AnswersAllowed worded) h I (SteppedHolds worded) 79 (step level c) w a i (step-part worded tt level c g)
 
   pub confined-worded : (c : Cpu) → Worded c → Leaves Worded (interpret h (confinedAttempt c) w .out)
   confined-worded c g =
-      within-result Any (AnswersAllowed worded) h I (Leaves Worded) 75 (confinedAttempt c) w (λ q w i. ((λ _. a q w i .0), a q w i .1)) i (confined-part worded c g)
+      within-result Any (AnswersAllowed worded) h I (Leaves Worded) 75 (confinedAttempt c) w a i (confined-part worded c g)

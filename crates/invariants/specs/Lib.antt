@@ -1,1 +1,2 @@
 pub mod FetchedText
+pub mod StopCodes
