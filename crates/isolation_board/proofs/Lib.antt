@@ -4,3 +4,5 @@ pub mod Buffers
 pub mod Exchanges
 pub mod Stepping
 pub mod Witness
+pub mod PrintedLaws
+pub mod Codes

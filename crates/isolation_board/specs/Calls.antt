@@ -16,6 +16,10 @@ use Rattle.machine.specs.Status.{Cpu}
 use Rattle.run_spec.specs.declared.Stopped.{Stopped}
 use Rattle.run.proofs.running.run_lent as run-lent
 use Rattle.run.proofs.running.run_lent.Reads as run-lent-contract
+use Rattle.hobbit.specs.declared.HobbitAnswer.{HobbitAnswer}
+use Rattle.hobbit.specs.Blocks.{Blocks}
+use Rattle.hobbit.proofs.hobbit_run as hobbit-run
+use Rattle.hobbit.proofs.hobbit_run.Reads as hobbit-run-contract
 use Rattle.board_conversation.specs.declared.LoopState.{LoopState}
 use Rattle.board_conversation.proofs.exchanges.converse as converse
 use Rattle.board_conversation.proofs.exchanges.converse.Reads as converse-contract
@@ -53,6 +57,22 @@ RunLent p c m confined budget level x d n =
 
     left : Lasts run-lent.ended (p .lifetimes) arguments
     left = (n, (d .cache, (d .bank, (tt, (tt, (tt, tt))))))
+
+-- ---- `hobbit_run` of the C interface, over the blocks of a caller
+
+abbrev pub HobbitRun : RunPlaces → Blocks → Bool → ℕ → ℕ → HobbitAnswer → Blocks → Type 0
+HobbitRun p s confined budget level x t =
+    hobbit-run-contract.Asked (p .lifetimes) arguments
+    → hobbit-run-contract.Learnt (p .lifetimes) arguments x (atExit hobbit-run.ended (p .lifetimes) arguments left)
+  where
+    arguments : Args hobbit-run.signature (p .lifetimes)
+    arguments =
+        let registers = lentAt (p .bank) (s .registers) in
+        let cache = lentAt (p .cache) (s .cache) in
+        (lentAt (p .memory) (s .memory), (registers, (cache, (confined, (budget, (level, tt))))))
+
+    left : Lasts hobbit-run.ended (p .lifetimes) arguments
+    left = (t .memory, (t .registers, (t .cache, (tt, (tt, (tt, tt))))))
 
 -- ---- `board_conversation::exchanges::converse` and `finish`, of the board program's loop
 

@@ -1,4 +1,5 @@
 pub mod Calls
+pub mod Codes
 pub mod Confinement
 pub mod Lines
 pub mod Buffers

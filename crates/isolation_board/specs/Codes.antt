@@ -1,0 +1,114 @@
+-- Request (i) of the running code: the stops and codes of runs as `run::running::run_lent` and `hobbit_run` answer them by the
+-- contracts that they export, and as 83 lines show them: one line of kind 03 or 04, and all that the board program prints.
+-- Assumes nothing.
+use Prim.Native.Nat.{ℕ, _<_}
+use mathlib.Core.Path.{_≡_}
+use mathlib.Core.Bool.{Bool, true, false}
+use mathlib.Core.List.{List, []}
+use lib.ListN.{length, getD}
+use lib.Dec.{eqb}
+use Rattle.memory.specs.Bytes.{Memory}
+use Rattle.machine.specs.Status.{Cpu}
+use Rattle.run_spec.specs.Run.{Board, refused, levelNotUser, run}
+use Rattle.run_spec.specs.declared.Stopped.{Stopped}
+use Rattle.hex.specs.Digits.{numberAt}
+use Rattle.board_lines.specs.declared.Frame.{Frame}
+use Rattle.board_lines.specs.declared.Frame.the-variants.{Run, Confined}
+use Rattle.board_lines.specs.Lines.{frameOf}
+use Rattle.board_conversation.specs.Conversation.{lineAnswer, linesOf, boardProgram}
+use Rattle.hobbit.specs.declared.HobbitAnswer.{HobbitAnswer}
+use Rattle.hobbit.specs.Blocks.{Blocks, boardIn}
+use Rattle.invariants.specs.StopCodes.{RunCodes, RunAnswers}
+use Rattle.isolation_board.specs.Calls.{RunPlaces, RunLent, HobbitRun}
+
+-- `run::running::run_lent`, on a machine and a memory that it was lent
+pub record LentAnswers (confined : Bool) (stop code : ℕ) : Type 0 where
+  pub places : RunPlaces
+  pub machine : Cpu
+  pub memory : Memory
+  pub budget : ℕ
+  pub level : ℕ
+  pub answer : Stopped
+  pub machineLeft : Cpu
+  pub memoryLeft : Memory
+  pub call : RunLent places machine memory confined budget level answer machineLeft memoryLeft
+  pub stops : answer .stop ≡ stop
+  pub codes : answer .code ≡ code
+
+-- `hobbit_run` of the C interface, on blocks
+pub record HobbitAnswers (confined : Bool) (stop code : ℕ) : Type 0 where
+  pub places : RunPlaces
+  pub lent : Blocks
+  pub budget : ℕ
+  pub level : ℕ
+  pub answer : HobbitAnswer
+  pub left : Blocks
+  pub call : HobbitRun places lent confined budget level answer left
+  pub stops : answer .stop ≡ stop
+  pub codes : answer .code ≡ code
+
+abbrev pub LentCodes : Type 0
+LentCodes = (confined : Bool) → RunCodes confined (LentAnswers confined)
+
+abbrev pub HobbitCodes : Type 0
+HobbitCodes = (confined : Bool) → RunCodes confined (HobbitAnswers confined)
+
+-- of both there are answers: their contracts allow those of the definition
+abbrev pub LentAnswered : Type 0
+LentAnswered = RunPlaces → (confined : Bool) (stop code : ℕ) → RunAnswers confined stop code → LentAnswers confined stop code
+
+abbrev pub HobbitAnswered : Type 0
+HobbitAnswered =
+    RunPlaces → (confined : Bool) (budget level : ℕ) (s : Blocks)
+    → HobbitAnswers confined (run confined budget level (boardIn (s .registers) (s .cache) (s .memory)) .stop)
+    (run confined budget level (boardIn (s .registers) (s .cache) (s .memory)) .code)
+
+-- a line of the board program: frame 04 for a confined run, frame 03 for another
+abbrev pub runFrame : Bool → ℕ → ℕ → Frame
+runFrame true budget level = Confined budget level
+runFrame false budget level = Run budget level
+
+-- "83, steps done (8 digits), stop (2), code (2), ..": the stop is read at the eleventh digit, the code at the thirteenth
+abbrev pub stopPlace : ℕ
+stopPlace = 10
+
+abbrev pub codePlace : ℕ
+codePlace = 12
+
+pub record PrintedAnswers (confined : Bool) (stop code : ℕ) : Type 0 where
+  pub number : ℕ
+  pub line : List ℕ
+  pub board : Board
+  pub budget : ℕ
+  pub level : ℕ
+  pub frame : frameOf line ≡ runFrame confined budget level
+  pub stops : numberAt 2 (lineAnswer number line board .printed) stopPlace ≡ stop
+  pub codes : numberAt 2 (lineAnswer number line board .printed) codePlace ≡ code
+
+abbrev pub PrintedCodes : Type 0
+PrintedCodes = (confined : Bool) → RunCodes confined (PrintedAnswers confined)
+
+-- ---- all that the board program prints: whatever is put in, each 83 line has a stop and a code of frame 04's list, which has
+-- frame 03's; so no line that it ever prints has code 06
+
+-- a printed line is a run's
+abbrev pub isRunLine : List ℕ → Bool
+isRunLine s = eqb (numberAt 2 s 0) 0x83
+
+abbrev pub printedLines : List ℕ → List (List ℕ)
+printedLines input = linesOf (boardProgram input)
+
+pub record ProgramAnswers (stop code : ℕ) : Type 0 where
+  pub input : List ℕ
+  pub place : ℕ
+  pub within : place < length (printedLines input)
+  pub ran : isRunLine (getD (printedLines input) place []) ≡ true
+  pub stops : numberAt 2 (getD (printedLines input) place []) stopPlace ≡ stop
+  pub codes : numberAt 2 (getD (printedLines input) place []) codePlace ≡ code
+
+abbrev pub ProgramCodes : Type 0
+ProgramCodes = RunCodes true ProgramAnswers
+
+-- there are such lines: frame 04 on the board as it starts, at kernel level, is refused with 9
+abbrev pub ProgramAnswered : Type 0
+ProgramAnswered = ProgramAnswers refused levelNotUser
