@@ -8,5 +8,6 @@ pub mod Events
 pub mod Regimes
 pub mod Cache
 pub mod Runs
+pub mod Codes
 pub mod Lines
 pub mod Blocks
