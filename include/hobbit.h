@@ -31,8 +31,14 @@ enum { HOBBIT_INTERFACE = 2 };
 
 uint32_t hobbit_interface(void);
 
-/* Steps done; stop 0 budget spent, 1 refused, 2 event due; code 0, the refusal's number, or the event: 0x01 to 0x0B the
- * exception, 0x10 to 0x16 interrupt level 0 to 6, 0x17 and 0x18 timers, 0x20 KCALL, 0x21 unimplemented. */
+/* Steps done; stop 0 budget spent, 1 refused, 2 event due; and the code. Of a confined run, by its stop:
+ *   0  0
+ *   1  the refusal's number: 1, 2, 3, 4 or 9
+ *   2  the event: 0x01 to 0x05 and 0x07 to 0x0B the exception, 0x10 to 0x16 interrupt level 0 to 6, 0x17 and 0x18 timers,
+ *      0x20 KCALL, 0x21 unimplemented
+ * and nothing else. 0x06, an unimplemented register, is not among them: at user level any register operand is 0x05. A run that
+ * takes its events never stops with 2, and is never refused with 9; an exception that it takes has its number in the event
+ * frame, 0x06 too. */
 typedef struct {
     uint32_t steps;
     uint32_t stop;
