@@ -13,3 +13,10 @@ refusedLine refusal line = digits 2 0x82 ++ digits 2 refusal ++ digits 8 line ++
 abbrev pub ranLine : ℕ → ℕ → ℕ → ℕ → ℕ → List ℕ
 ranLine steps stop code pc psw =
     digits 2 0x83 ++ digits 8 steps ++ digits 2 stop ++ digits 2 code ++ digits 8 pc ++ digits 8 psw ++ (newline ∷ [])
+
+-- where the digits of the stop and of the code begin in it
+abbrev pub stopPlace : ℕ
+stopPlace = 10
+
+abbrev pub codePlace : ℕ
+codePlace = 12

@@ -5,6 +5,7 @@ use Prim.Native.Nat.{ℕ, _+_, _*_}
 use mathlib.Core.Bool.{Bool, true, false, not, _&&_, _||_}
 use mathlib.Core.List.{List, [], _∷_, _++_, map}
 use lib.Dec.{eqb}
+use Rattle.word.specs.Lists.{contains}
 use Rattle.isa.specs.declared.MonadicRow.{MonadicRow}
 use Rattle.isa.specs.declared.MonadicRow.the-variants.{Kcall, Call, Return, Jmp, Jmpfn, Jmpfy, Jmptn, Jmpty, Catch, Enter, Ldraa, Flushpte, Flushpbe, Popn}
 use Rattle.isa.specs.Legal.{negative}
@@ -42,10 +43,6 @@ setApart true =
     ++ lowBytes (0x7 ∷ []) wordModes
     ++ lowBytes (0xC ∷ 0xD ∷ []) (subcodes (Jmpty ∷ []))
     ++ lowBytes (0xC ∷ 0xE ∷ 0xF ∷ []) (subcodes (Popn ∷ []))
-
-abbrev pub contains : List ℕ → ℕ → Bool
-contains [] q = false
-contains (k ∷ ks) q = eqb q k || contains ks q
 
 -- q: the 14 bits that a first parcel of either form has below its form's
 abbrev pub isSetApart : Bool → ℕ → Bool

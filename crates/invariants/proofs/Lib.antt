@@ -18,5 +18,4 @@ pub mod ShapeLaws
 pub mod WordLaws
 pub mod MemoryLaws
 pub mod FetchedText
-pub mod AmongLaws
 pub mod StopCodes

@@ -8,6 +8,7 @@ use native.Mathlib.Omega.{arith}
 use lib.Dec.{T, eqb, ltb, leb}
 use lib.ListN.{set}
 use Rattle.word.specs.Fields.{bitOf}
+use Rattle.word.specs.Lists.{contains}
 use Rattle.word.specs.declared.Width.{Width}
 use Rattle.word.specs.Widths.{bytesOf}
 use Rattle.memory.specs.Answers.{Answer, good, raised}
@@ -18,7 +19,7 @@ use Rattle.machine.specs.Cache.{cacheWrite}
 use Rattle.machine.specs.Status.{Cpu, cpu, reg, with, isUser, regime}
 use Rattle.datapath.specs.Parts.{Out, ok, stop, onward, _>>=_, done}
 use Rattle.access_spec.proofs.BoundedLaws.{Within, within-more, within-after, within-weaker}
-use Rattle.invariants.specs.StopCodes.{isAmong, confinedExceptions}
+use Rattle.invariants.specs.StopCodes.{confinedExceptions}
 
 -- what may stand at a place of the bank: a word in a register, 1 or 0 where something is due
 abbrev pub suits : ℕ → ℕ → Bool
@@ -46,7 +47,7 @@ Sized (probe r a) v = Unit
 
 -- an exception that a confined run may meet
 abbrev pub ConfinedException : ℕ → Type 0
-ConfinedException e = isAmong e confinedExceptions ≡ true
+ConfinedException e = contains confinedExceptions e ≡ true
 
 -- an answer of that kind where W holds, or an exception in R
 abbrev pub AnswerIn : Type 0 → (ℕ → Type 0) → Access → Answer → Type 0

@@ -6,6 +6,7 @@ use mathlib.Core.Bool.{Bool, true, false, cond, not, _&&_, false≢true}
 use native.Mathlib.Omega.{arith}
 use lib.Dec.{T, eqb, lit<}
 use Rattle.word.specs.Fields.{bitOf}
+use Rattle.word.specs.Lists.{contains}
 use Rattle.word.specs.Sums.{plusOf}
 use Rattle.isa.specs.declared.Decoded.{Decoded}
 use Rattle.isa.specs.declared.Decoded.the-variants.{Is, Illegal, Unimplemented, Truncated}
@@ -23,7 +24,7 @@ use Rattle.step_spec.specs.Timers.{counts1, counts2, ticked, counted}
 use Rattle.step_spec.specs.Step.{Dispatch, toInstruction, toVector, dispatch, fetchInstruction, Acted, finished, sequenced, act, attempt, tracesAt, traceFalls, Stepped, stepped, settled, eventStep, exceptionStep, finish, instructionStep, stepFor, step, timed}
 use Rattle.run_spec.specs.Run.{ConfinedActed, carriedOut, fetched, isKcall, actConfined, confinedAttempt}
 use Rattle.access_spec.proofs.BoundedLaws.{Within, within-more, within-after, within-weaker}
-use Rattle.invariants.specs.StopCodes.{isAmong, fetchedCodes}
+use Rattle.invariants.specs.StopCodes.{fetchedCodes}
 use Rattle.invariants.proofs.RuleLaws.{plainly, Rules, AnswersAllowed, ResultsAllowed, Part, bind, more, gives, either}
 use Rattle.invariants.proofs.AccessLaws.{plus-value}
 use Rattle.invariants.proofs.TextLaws.{fetch-text}
@@ -46,12 +47,12 @@ SteppedHolds k s = k .Holds (s .cpu)
 
 abbrev ConfinedHolds : Rules → ConfinedActed → Type 0
 ConfinedHolds k (carriedOut t c) = k .Holds c
-ConfinedHolds k (fetched code) = isAmong code fetchedCodes ≡ true
+ConfinedHolds k (fetched code) = contains fetchedCodes code ≡ true
 
 -- an attempt of a confined run ends with a machine in H, with the code of what has only been fetched, or by an exception in R
 abbrev pub EndsIn : (ℕ → Type 0) → (Cpu → Type 0) → Out ConfinedActed → Type 0
 EndsIn R H (ok (carriedOut t c)) = H c
-EndsIn R H (ok (fetched code)) = isAmong code fetchedCodes ≡ true
+EndsIn R H (ok (fetched code)) = contains fetchedCodes code ≡ true
 EndsIn R H (stop e c) = R e × H c
 
 -- every machine that it leaves is in H

@@ -8,7 +8,9 @@ use native.Mathlib.Omega.{arith}
 use borrow.Author.Tests.{eqb-true, leb-true}
 use lib.ListN.{length}
 use lib.Dec.{eqb, ltb, leb}
+use Rattle.word.specs.Lists.{contains}
 use Rattle.word.proofs.CaseLaws.{either}
+use Rattle.word.proofs.ListLaws.{contains-left, contains-right}
 use Rattle.memory.specs.Exceptions.{unimplementedRegister}
 use Rattle.memory.specs.Bytes.{Memory, wholePages, memorySize}
 use Rattle.mmu.specs.declared.Regime.{Regime}
@@ -19,8 +21,7 @@ use Rattle.datapath.specs.Parts.{Out, ok, stop}
 use Rattle.step_spec.specs.Events.{interrupt, timer1, timer2, trace, Due, none, due, priority, isPending, dueOf, looked, eventCode}
 use Rattle.step_spec.specs.Step.{step, tracesAt, holdsStack}
 use Rattle.run_spec.specs.Run.{Board, board, Turn, goes, ends, budgetSpent, refused, eventDue, ifStackHeld, turn, ConfinedActed, carriedOut, fetched, confinedAttempt, afterAttempt, confinedFor, confinedTurn, RunResult, going, advance, levelRefused, levelNotUser, refusal, turnOf, unlessRefused, run}
-use Rattle.invariants.specs.StopCodes.{isAmong, refusalCodes, confinedExceptions, interruptCodes, fetchedCodes, eventCodes, stopCodes, confinedCode, RunCodes, RunAnswers, StopCodes}
-use Rattle.invariants.proofs.AmongLaws.{among-left, among-right}
+use Rattle.invariants.specs.StopCodes.{refusalCodes, confinedExceptions, interruptCodes, fetchedCodes, eventCodes, codesAt, confinedCode, RunCodes, RunStops, StopCodes}
 use Rattle.invariants.proofs.RuleLaws.{ConfinedException}
 use Rattle.invariants.proofs.StepLaws.{EndsIn}
 use Rattle.invariants.proofs.LevelLaws.{user-ends, looked-kept, timed-kept}
@@ -29,13 +30,14 @@ use Rattle.invariants.proofs.MemoryLaws.{plain-raises}
 -- ---- a stop with its codes, by cases
 
 pub by-stop : (P : ℕ → List ℕ → Type 0) (confined : Bool) → P budgetSpent (0 ∷ []) → P refused (refusalCodes confined) → P eventDue (eventCodes confined)
-    → ((r : ℕ) → P r []) → (reason : ℕ) → P reason (stopCodes confined reason)
-by-stop P confined spent refusals events others reason = go (eqb reason 0) (eqb reason 1) (eqb reason 2) (eqb-true reason 0) (eqb-true reason 1) (eqb-true reason 2)
+    → ((r : ℕ) → P r []) → (reason : ℕ) → P reason (codesAt confined reason)
+by-stop P confined spent refusals events others reason =
+    go (eqb reason budgetSpent) (eqb reason refused) (eqb reason eventDue) (eqb-true reason budgetSpent) (eqb-true reason refused) (eqb-true reason eventDue)
   where
     at : (n : ℕ) (l : List ℕ) → P n l → reason ≡ n → P reason l
     at n l p e = subst (λ r. P r l) (sym e) p
 
-    go : (x y z : Bool) → (x ≡ true → reason ≡ 0) → (y ≡ true → reason ≡ 1) → (z ≡ true → reason ≡ 2)
+    go : (x y z : Bool) → (x ≡ true → reason ≡ budgetSpent) → (y ≡ true → reason ≡ refused) → (z ≡ true → reason ≡ eventDue)
         → P reason (cond x (0 ∷ []) (cond y (refusalCodes confined) (cond z (eventCodes confined) [])))
     go true y z e f g = at budgetSpent (0 ∷ []) spent (e refl)
     go false true z e f g = at refused (refusalCodes confined) refusals (f refl)
@@ -43,17 +45,17 @@ by-stop P confined spent refusals events others reason = go (eqb reason 0) (eqb 
     go false false false e f g = others reason
 
 -- frame 04's list has all of frame 03's
-pub on-confined-list : (confined : Bool) (code reason : ℕ) → isAmong code (stopCodes confined reason) ≡ true → confinedCode reason code ≡ true
+pub on-confined-list : (confined : Bool) (code reason : ℕ) → contains (codesAt confined reason) code ≡ true → confinedCode reason code ≡ true
 on-confined-list true code reason h = h
 on-confined-list false code reason h =
-    by-stop (λ r l. isAmong code l ≡ true → confinedCode r code ≡ true) false (λ k. k) (λ k. among-left code (refusalCodes false) (levelNotUser ∷ []) k)
+    by-stop (λ r l. contains l code ≡ true → confinedCode r code ≡ true) false (λ k. k) (λ k. contains-left code (refusalCodes false) (levelNotUser ∷ []) k)
     (λ k. absurd (false≢true k)) (λ r k. absurd (false≢true k)) reason h
 
 -- ---- what is due
 
 abbrev DueListed : Due → Type 0
 DueListed none = Unit
-DueListed (due e) = isAmong (eventCode e) (eventCodes true) ≡ true
+DueListed (due e) = contains (eventCodes true) (eventCode e) ≡ true
 
 interrupt-listed : (n : ℕ) → n ≤ 6 → DueListed (due (interrupt n))
 interrupt-listed zero h = refl
@@ -85,10 +87,10 @@ due-listed level b =
 module _ (confined : Bool) (I : Board → Type 0) where
   abbrev TurnListed : Turn → Type 0
   TurnListed (goes s) = I s
-  TurnListed (ends reason code s) = isAmong code (stopCodes confined reason) ≡ true
+  TurnListed (ends reason code s) = contains (codesAt confined reason) code ≡ true
 
   abbrev Listed : RunResult → Type 0
-  Listed e = isAmong (e .code) (stopCodes confined (e .stop)) ≡ true
+  Listed e = contains (codesAt confined (e .stop)) (e .code) ≡ true
 
   -- refusal 4 is on both lists
   held-listed : (held : Bool) (s : Board) (t : Turn) → TurnListed t → TurnListed (ifStackHeld held s t)
@@ -125,9 +127,9 @@ module _ (s : Board) (c : Cpu) (u : isUser (c .bank) ≡ true) where
       held-listed true AtUser (holdsStack d) s _ (ap (λ (r : Regime). r .user) (timed-kept c u (s .cpu) d (tracesAt (reg c psw) t) true h) ∙ u)
   attempt-listed (ok (fetched code)) h m =
       held-listed true AtUser (holdsStack c) s (ends eventDue code (board c m))
-      (among-right code confinedExceptions (interruptCodes ++ fetchedCodes) (among-right code interruptCodes fetchedCodes h))
+      (contains-right code confinedExceptions (interruptCodes ++ fetchedCodes) (contains-right code interruptCodes fetchedCodes h))
   attempt-listed (stop e d) h m =
-      held-listed true AtUser (holdsStack d) s (ends eventDue e (board d m)) (among-left e confinedExceptions (interruptCodes ++ fetchedCodes) (h .0))
+      held-listed true AtUser (holdsStack d) s (ends eventDue e (board d m)) (contains-left e confinedExceptions (interruptCodes ++ fetchedCodes) (h .0))
 
   for-listed : (d : Due) → DueListed d → TurnListed true AtUser (confinedFor d s c)
   for-listed none h =
@@ -145,7 +147,7 @@ confined-listed level s u =
 
 abbrev RefusalListed : Bool → Board → ℕ → Type 0
 RefusalListed confined s zero = confined ≡ true → AtUser s
-RefusalListed confined s (suc r) = isAmong (suc r) (refusalCodes confined) ≡ true
+RefusalListed confined s (suc r) = contains (refusalCodes confined) (suc r) ≡ true
 
 refusal-listed : (confined : Bool) (level : ℕ) (s : Board) → RefusalListed confined s (refusal confined level s)
 unfolding refusal
@@ -162,7 +164,7 @@ refusal-listed confined level s =
     last true false y f = refl
 
 pub run-listed : (confined : Bool) (budget level : ℕ) (s : Board)
-    → isAmong (run confined budget level s .code) (stopCodes confined (run confined budget level s .stop)) ≡ true
+    → contains (codesAt confined (run confined budget level s .stop)) (run confined budget level s .code) ≡ true
 unfolding run
 run-listed confined budget level s = go confined (refusal confined level s) (refusal-listed confined level s)
   where
@@ -173,39 +175,39 @@ run-listed confined budget level s = go confined (refusal confined level s) (ref
 
 -- ---- so neither 06 nor an event without a code comes from whoever answers by the list, as the definition does
 
-register-unlisted : (confined : Bool) (reason : ℕ) → isAmong unimplementedRegister (stopCodes confined reason) ≡ true → ⊥
+register-unlisted : (confined : Bool) (reason : ℕ) → contains (codesAt confined reason) unimplementedRegister ≡ true → ⊥
 register-unlisted confined = by-stop unlisted confined false≢true (refusals confined) (events confined) (λ r. false≢true)
   where
     unlisted : ℕ → List ℕ → Type 0
-    unlisted r l = isAmong unimplementedRegister l ≡ true → ⊥
+    unlisted r l = contains l unimplementedRegister ≡ true → ⊥
 
-    refusals : (confined : Bool) → isAmong unimplementedRegister (refusalCodes confined) ≡ true → ⊥
+    refusals : (confined : Bool) → contains (refusalCodes confined) unimplementedRegister ≡ true → ⊥
     refusals true = false≢true
     refusals false = false≢true
 
-    events : (confined : Bool) → isAmong unimplementedRegister (eventCodes confined) ≡ true → ⊥
+    events : (confined : Bool) → contains (eventCodes confined) unimplementedRegister ≡ true → ⊥
     events true = false≢true
     events false = false≢true
 
-zero-unlisted : (confined : Bool) → isAmong 0 (eventCodes confined) ≡ true → ⊥
+zero-unlisted : (confined : Bool) → contains (eventCodes confined) 0 ≡ true → ⊥
 zero-unlisted true = false≢true
 zero-unlisted false = false≢true
 
-pub listed-codes : (confined : Bool) (Answers : ℕ → ℕ → Type 0)
-    → ((reason code : ℕ) → Answers reason code → isAmong code (stopCodes confined reason) ≡ true) → RunCodes confined Answers
-listed-codes confined Answers f =
+pub listed-codes : (confined : Bool) (Stops : ℕ → ℕ → Type 0)
+    → ((reason code : ℕ) → Stops reason code → contains (codesAt confined reason) code ≡ true) → RunCodes confined Stops
+listed-codes confined Stops f =
     record {
       listed = f;
       noUnimplementedRegister = λ reason a. register-unlisted confined reason (f reason unimplementedRegister a);
       noEventWithoutCode = λ a. zero-unlisted confined (f eventDue 0 a);
     }
 
-pub answers-codes : (confined : Bool) (Answers : ℕ → ℕ → Type 0) → ((reason code : ℕ) → Answers reason code → RunAnswers confined reason code)
-    → RunCodes confined Answers
-answers-codes confined Answers f = listed-codes confined Answers (λ reason code a. on-list reason code (f reason code a))
+pub answers-codes : (confined : Bool) (Stops : ℕ → ℕ → Type 0) → ((reason code : ℕ) → Stops reason code → RunStops confined reason code)
+    → RunCodes confined Stops
+answers-codes confined Stops f = listed-codes confined Stops (λ reason code a. on-list reason code (f reason code a))
   where
-    on-list : (reason code : ℕ) → RunAnswers confined reason code → isAmong code (stopCodes confined reason) ≡ true
-    on-list reason code r = rw (← r .stops, ← r .codes) (run-listed confined (r .budget) (r .level) (r .start))
+    on-list : (reason code : ℕ) → RunStops confined reason code → contains (codesAt confined reason) code ≡ true
+    on-list reason code r = rw (← r .stopIs, ← r .codeIs) (run-listed confined (r .budget) (r .level) (r .start))
 
 pub stop-codes : StopCodes
-stop-codes confined = answers-codes confined (RunAnswers confined) (λ reason code r. r)
+stop-codes confined = answers-codes confined (RunStops confined) (λ reason code r. r)

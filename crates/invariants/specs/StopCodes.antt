@@ -3,18 +3,15 @@
 -- Assumes nothing.
 use Prim.Native.Nat.{ℕ}
 use mathlib.Core.Path.{_≡_}
-use mathlib.Core.Bool.{Bool, true, false, cond, _||_}
+use mathlib.Core.Bool.{Bool, true, false, cond}
 use mathlib.Core.List.{List, [], _∷_, _++_}
 use lib.Dec.{eqb}
+use Rattle.word.specs.Lists.{contains}
 use Rattle.isa.specs.Answers.{unimplementedCode}
 use Rattle.memory.specs.Exceptions.{zeroDivide, traceException, illegalInstruction, alignmentFault, privilegeViolation, unimplementedRegister, fetchFault, readFault, writeFault, busFault, walkFault}
 use Rattle.memory.specs.Bytes.{memorySize}
 use Rattle.machine.specs.Registers.{registerRefused}
 use Rattle.run_spec.specs.Run.{Board, budgetSpent, refused, eventDue, stackRange, levelRefused, levelNotUser, kcallCode, run}
-
-abbrev pub isAmong : ℕ → List ℕ → Bool
-isAmong x [] = false
-isAmong x (y ∷ l) = eqb x y || isAmong x l
 
 -- ---- the codes by their stop (document 01, "The board program and its frames")
 
@@ -42,38 +39,38 @@ eventCodes true = confinedExceptions ++ interruptCodes ++ fetchedCodes
 eventCodes false = []
 
 -- stop 00, "budget spent, code 00"
-abbrev pub stopCodes : Bool → ℕ → List ℕ
-stopCodes confined stop =
+abbrev pub codesAt : Bool → ℕ → List ℕ
+codesAt confined stop =
     cond (eqb stop budgetSpent) (0 ∷ [])
     (cond (eqb stop refused) (refusalCodes confined) (cond (eqb stop eventDue) (eventCodes confined) []))
 
 -- a stop and its code are a confined run's, frame 04's
 abbrev pub confinedCode : ℕ → ℕ → Bool
-confinedCode stop code = isAmong code (stopCodes true stop)
+confinedCode stop code = contains (codesAt true stop) code
 
--- ---- what is claimed of answers to runs, confined or not: Answers stop code if one is answered so
+-- ---- what is claimed of answers to runs, confined or not: Stops stop code if one is answered so
 
-pub record RunCodes (confined : Bool) (Answers : ℕ → ℕ → Type 0) : Type 0 where
+pub record RunCodes (confined : Bool) (Stops : ℕ → ℕ → Type 0) : Type 0 where
   -- each is on the list
-  pub listed : (stop code : ℕ) → Answers stop code → isAmong code (stopCodes confined stop) ≡ true
+  pub listed : (stop code : ℕ) → Stops stop code → contains (codesAt confined stop) code ≡ true
   -- "code 06 can't come", at any stop
-  pub noUnimplementedRegister : (stop : ℕ) → Answers stop unimplementedRegister → ⊥
+  pub noUnimplementedRegister : (stop : ℕ) → Stops stop unimplementedRegister → ⊥
   -- and no event comes without a code
-  pub noEventWithoutCode : Answers eventDue 0 → ⊥
+  pub noEventWithoutCode : Stops eventDue 0 → ⊥
 
 -- ---- the definition's answers: to any budget and any interrupt input, on any board, refused ones among them
 
-pub record RunAnswers (confined : Bool) (stop code : ℕ) : Type 0 where
+pub record RunStops (confined : Bool) (stop code : ℕ) : Type 0 where
   pub budget : ℕ
   pub level : ℕ
   pub start : Board
-  pub stops : run confined budget level start .stop ≡ stop
-  pub codes : run confined budget level start .code ≡ code
+  pub stopIs : run confined budget level start .stop ≡ stop
+  pub codeIs : run confined budget level start .code ≡ code
 
 -- the theorem: so they are, confined or not
 abbrev pub StopCodes : Type 0
-StopCodes = (confined : Bool) → RunCodes confined (RunAnswers confined)
+StopCodes = (confined : Bool) → RunCodes confined (RunStops confined)
 
 -- and no code is on the list in vain
 abbrev pub EveryCode : Type 0
-EveryCode = (confined : Bool) (stop code : ℕ) → isAmong code (stopCodes confined stop) ≡ true → RunAnswers confined stop code
+EveryCode = (confined : Bool) (stop code : ℕ) → contains (codesAt confined stop) code ≡ true → RunStops confined stop code

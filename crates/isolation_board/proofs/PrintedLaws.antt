@@ -1,17 +1,16 @@
 -- What the board program prints, line by line: a line of input prints nothing, or one line of digits.
 -- Assumes nothing.
-use Prim.Native.Nat.{ℕ, zero, suc, _/_, _%_, _^_, _<_}
-use mathlib.Core.Path.{_≡_, refl, sym, ap, subst, _∙_}
+use Prim.Native.Nat.{ℕ, zero, suc, _-_, _/_, _%_, _^_, _<_}
+use mathlib.Core.Path.{_≡_, sym, ap, subst, _∙_}
 use mathlib.Core.Bool.{Bool, true, false, _&&_, false≢true}
 use mathlib.Core.List.{List, [], _∷_, _++_, append-assoc, append-nil}
 use borrow.Author.Tests.{eqb-true}
 use native.Mathlib.Omega.{arith}
-use lib.ListN.{length, getD}
+use lib.ListN.{length, getD, take}
 use lib.Dec.{eqb}
 use Rattle.word.proofs.CaseLaws.{by-test, and-left, and-right}
-use Rattle.machine.specs.Registers.{pc, psw, setRegister}
-use Rattle.machine.specs.Status.{reg}
-use Rattle.run_spec.specs.Run.{Board, RunResult, run}
+use Rattle.machine.specs.Registers.{setRegister}
+use Rattle.run_spec.specs.Run.{Board, run}
 use Rattle.hex.specs.Digits.{isDigit, allDigits, digitByte, digits}
 use Rattle.hex.specs.Output.{newline}
 use Rattle.hex.proofs.DigitLaws.{all-append, all-digits}
@@ -65,21 +64,17 @@ line-lines P _ u (one-line b c d p) h = subst (EveryLine P) (sym lines) (p, h)
 more-digits : (n x : ℕ) (t : List ℕ) → allDigits t ≡ true → allDigits (digits n x ++ t) ≡ true
 more-digits n x t h = all-append (digits n x) t ∙ (λ i. all-digits n x i && h i)
 
--- what a run's line says before its newline
-abbrev pub ranDigits : ℕ → ℕ → ℕ → ℕ → ℕ → List ℕ
-ranDigits steps reason code counter status =
-    digits 2 0x83 ++ digits 8 steps ++ digits 2 reason ++ digits 2 code ++ digits 8 counter ++ digits 8 status
-
-abbrev pub refusedDigits : ℕ → ℕ → List ℕ
-refusedDigits refusal line = digits 2 0x82 ++ digits 2 refusal ++ digits 8 line
+-- a line without its newline
+abbrev pub unended : List ℕ → List ℕ
+unended t = take (length t - 1) t
 
 module _ (P : List ℕ → Type 0) where
-  refused-text : (r n : ℕ) → P (refusedDigits r n) → LineText P (refusedLine r n)
+  refused-text : (r n : ℕ) → P (unended (refusedLine r n)) → LineText P (refusedLine r n)
   refused-text r n p =
       let rest = digits 2 r ++ digits 8 n in
       one-line (digitByte (0x82 / 16 ^ 1 % 16)) (digits 1 0x82 ++ rest) (more-digits 2 0x82 rest (more-digits 2 r (digits 8 n) (all-digits 8 n))) p
 
-  ran-text : (n r e c s : ℕ) → P (ranDigits n r e c s) → LineText P (ranLine n r e c s)
+  ran-text : (n r e c s : ℕ) → P (unended (ranLine n r e c s)) → LineText P (ranLine n r e c s)
   ran-text n r e c s p =
       let after-code = digits 8 c ++ digits 8 s in
       let after-stop = digits 2 e ++ after-code in
@@ -89,15 +84,14 @@ module _ (P : List ℕ → Type 0) where
       (more-digits 2 0x83 rest (more-digits 8 n after-steps (more-digits 2 r after-stop (more-digits 2 e after-code (more-digits 8 c (digits 8 s) (all-digits 8 s)))))) p
 
   -- where every line of a refusal is in P, and every line of a run
-  module _ (refused : (r n : ℕ) → P (refusedDigits r n))
-      (ran : (confined : Bool) (budget level : ℕ) (b : Board) (e : RunResult) → run confined budget level b ≡ e
-      → P (ranDigits (e .steps) (e .stop) (e .code) (reg (e .left .cpu) pc) (reg (e .left .cpu) psw))) where
+  module _ (refused : (r n : ℕ) → P (unended (refusedLine r n)))
+      (ran : (confined : Bool) (budget level : ℕ) (b : Board) → P (unended (hasRun (run confined budget level b) .printed))) where
     unless-text : (n r : ℕ) → LineText P (unlessDone n r)
     unless-text n zero = no-text
     unless-text n (suc r) = refused-text (suc r) n (refused (suc r) n)
 
     run-text : (confined : Bool) (budget level : ℕ) (b : Board) → LineText P (hasRun (run confined budget level b) .printed)
-    run-text confined budget level b = ran-text _ _ _ _ _ (ran confined budget level b (run confined budget level b) refl)
+    run-text confined budget level b = ran-text _ _ _ _ _ (ran confined budget level b)
 
     frame-text : (n : ℕ) (s : List ℕ) (b : Board) (f : Frame) → LineText P (frameAnswer n s b f .printed)
     unfolding frameAnswer

@@ -15,14 +15,15 @@ use Rattle.hex.specs.Digits.{numberAt}
 use Rattle.board_lines.specs.declared.Frame.{Frame}
 use Rattle.board_lines.specs.declared.Frame.the-variants.{Run, Confined}
 use Rattle.board_lines.specs.Lines.{frameOf}
+use Rattle.board_lines.specs.Answers.{stopPlace, codePlace}
 use Rattle.board_conversation.specs.Conversation.{lineAnswer, linesOf, boardProgram}
 use Rattle.hobbit.specs.declared.HobbitAnswer.{HobbitAnswer}
 use Rattle.hobbit.specs.Blocks.{Blocks, boardIn}
-use Rattle.invariants.specs.StopCodes.{RunCodes, RunAnswers}
+use Rattle.invariants.specs.StopCodes.{RunCodes, RunStops}
 use Rattle.isolation_board.specs.Calls.{RunPlaces, RunLent, HobbitRun}
 
 -- `run::running::run_lent`, on a machine and a memory that it was lent
-pub record LentAnswers (confined : Bool) (stop code : ℕ) : Type 0 where
+pub record LentStops (confined : Bool) (stop code : ℕ) : Type 0 where
   pub places : RunPlaces
   pub machine : Cpu
   pub memory : Memory
@@ -32,11 +33,11 @@ pub record LentAnswers (confined : Bool) (stop code : ℕ) : Type 0 where
   pub machineLeft : Cpu
   pub memoryLeft : Memory
   pub call : RunLent places machine memory confined budget level answer machineLeft memoryLeft
-  pub stops : answer .stop ≡ stop
-  pub codes : answer .code ≡ code
+  pub stopIs : answer .stop ≡ stop
+  pub codeIs : answer .code ≡ code
 
 -- `hobbit_run` of the C interface, on blocks
-pub record HobbitAnswers (confined : Bool) (stop code : ℕ) : Type 0 where
+pub record HobbitStops (confined : Bool) (stop code : ℕ) : Type 0 where
   pub places : RunPlaces
   pub lent : Blocks
   pub budget : ℕ
@@ -44,23 +45,23 @@ pub record HobbitAnswers (confined : Bool) (stop code : ℕ) : Type 0 where
   pub answer : HobbitAnswer
   pub left : Blocks
   pub call : HobbitRun places lent confined budget level answer left
-  pub stops : answer .stop ≡ stop
-  pub codes : answer .code ≡ code
+  pub stopIs : answer .stop ≡ stop
+  pub codeIs : answer .code ≡ code
 
 abbrev pub LentCodes : Type 0
-LentCodes = (confined : Bool) → RunCodes confined (LentAnswers confined)
+LentCodes = (confined : Bool) → RunCodes confined (LentStops confined)
 
 abbrev pub HobbitCodes : Type 0
-HobbitCodes = (confined : Bool) → RunCodes confined (HobbitAnswers confined)
+HobbitCodes = (confined : Bool) → RunCodes confined (HobbitStops confined)
 
 -- of both there are answers: their contracts allow those of the definition
 abbrev pub LentAnswered : Type 0
-LentAnswered = RunPlaces → (confined : Bool) (stop code : ℕ) → RunAnswers confined stop code → LentAnswers confined stop code
+LentAnswered = RunPlaces → (confined : Bool) (stop code : ℕ) → RunStops confined stop code → LentStops confined stop code
 
 abbrev pub HobbitAnswered : Type 0
 HobbitAnswered =
     RunPlaces → (confined : Bool) (budget level : ℕ) (s : Blocks)
-    → HobbitAnswers confined (run confined budget level (boardIn (s .registers) (s .cache) (s .memory)) .stop)
+    → HobbitStops confined (run confined budget level (boardIn (s .registers) (s .cache) (s .memory)) .stop)
     (run confined budget level (boardIn (s .registers) (s .cache) (s .memory)) .code)
 
 -- a line of the board program: frame 04 for a confined run, frame 03 for another
@@ -68,25 +69,18 @@ abbrev pub runFrame : Bool → ℕ → ℕ → Frame
 runFrame true budget level = Confined budget level
 runFrame false budget level = Run budget level
 
--- "83, steps done (8 digits), stop (2), code (2), ..": the stop is read at the eleventh digit, the code at the thirteenth
-abbrev pub stopPlace : ℕ
-stopPlace = 10
-
-abbrev pub codePlace : ℕ
-codePlace = 12
-
-pub record PrintedAnswers (confined : Bool) (stop code : ℕ) : Type 0 where
+pub record PrintedStops (confined : Bool) (stop code : ℕ) : Type 0 where
   pub number : ℕ
   pub line : List ℕ
   pub board : Board
   pub budget : ℕ
   pub level : ℕ
   pub frame : frameOf line ≡ runFrame confined budget level
-  pub stops : numberAt 2 (lineAnswer number line board .printed) stopPlace ≡ stop
-  pub codes : numberAt 2 (lineAnswer number line board .printed) codePlace ≡ code
+  pub stopIs : numberAt 2 (lineAnswer number line board .printed) stopPlace ≡ stop
+  pub codeIs : numberAt 2 (lineAnswer number line board .printed) codePlace ≡ code
 
 abbrev pub PrintedCodes : Type 0
-PrintedCodes = (confined : Bool) → RunCodes confined (PrintedAnswers confined)
+PrintedCodes = (confined : Bool) → RunCodes confined (PrintedStops confined)
 
 -- ---- all that the board program prints: whatever is put in, each 83 line has a stop and a code of frame 04's list, which has
 -- frame 03's; so no line that it ever prints has code 06
@@ -98,17 +92,17 @@ isRunLine s = eqb (numberAt 2 s 0) 0x83
 abbrev pub printedLines : List ℕ → List (List ℕ)
 printedLines input = linesOf (boardProgram input)
 
-pub record ProgramAnswers (stop code : ℕ) : Type 0 where
+pub record ProgramStops (stop code : ℕ) : Type 0 where
   pub input : List ℕ
   pub place : ℕ
   pub within : place < length (printedLines input)
   pub ran : isRunLine (getD (printedLines input) place []) ≡ true
-  pub stops : numberAt 2 (getD (printedLines input) place []) stopPlace ≡ stop
-  pub codes : numberAt 2 (getD (printedLines input) place []) codePlace ≡ code
+  pub stopIs : numberAt 2 (getD (printedLines input) place []) stopPlace ≡ stop
+  pub codeIs : numberAt 2 (getD (printedLines input) place []) codePlace ≡ code
 
 abbrev pub ProgramCodes : Type 0
-ProgramCodes = RunCodes true ProgramAnswers
+ProgramCodes = RunCodes true ProgramStops
 
 -- there are such lines: frame 04 on the board as it starts, at kernel level, is refused with 9
 abbrev pub ProgramAnswered : Type 0
-ProgramAnswered = ProgramAnswers refused levelNotUser
+ProgramAnswered = ProgramStops refused levelNotUser

@@ -1,6 +1,7 @@
 pub mod MatchLaws
 pub mod CaseLaws
 pub mod EveryLaws
+pub mod ListLaws
 pub mod FieldLaws
 mod SumLaws
 mod FlagLaws

@@ -1,4 +1,5 @@
 pub mod Fields
+pub mod Lists
 pub mod Products
 pub mod Shifts
 pub mod Signed
