@@ -5,14 +5,21 @@ use mathlib.Core.List.{List, [], _∷_, _++_}
 use Rattle.hex.specs.Digits.{digits}
 use Rattle.hex.specs.Output.{newline}
 
+-- the kinds of lines that are printed
+abbrev pub refusedKind : ℕ
+refusedKind = 0x82
+
+abbrev pub ranKind : ℕ
+ranKind = 0x83
+
 -- "82, number (2), line from 1 (8)"
 abbrev pub refusedLine : ℕ → ℕ → List ℕ
-refusedLine refusal line = digits 2 0x82 ++ digits 2 refusal ++ digits 8 line ++ (newline ∷ [])
+refusedLine refusal line = digits 2 refusedKind ++ digits 2 refusal ++ digits 8 line ++ (newline ∷ [])
 
 -- "83, steps done (8 digits), stop (2), code (2), PC (8), PSW (8)"
 abbrev pub ranLine : ℕ → ℕ → ℕ → ℕ → ℕ → List ℕ
 ranLine steps stop code pc psw =
-    digits 2 0x83 ++ digits 8 steps ++ digits 2 stop ++ digits 2 code ++ digits 8 pc ++ digits 8 psw ++ (newline ∷ [])
+    digits 2 ranKind ++ digits 8 steps ++ digits 2 stop ++ digits 2 code ++ digits 8 pc ++ digits 8 psw ++ (newline ∷ [])
 
 -- where the digits of the stop and of the code begin in it
 abbrev pub stopPlace : ℕ

@@ -89,20 +89,20 @@ module _ (confined : Bool) (I : Board → Type 0) where
   TurnListed (goes s) = I s
   TurnListed (ends reason code s) = contains (codesAt confined reason) code ≡ true
 
-  abbrev Listed : RunResult → Type 0
-  Listed e = contains (codesAt confined (e .stop)) (e .code) ≡ true
+  abbrev ResultListed : RunResult → Type 0
+  ResultListed e = contains (codesAt confined (e .stop)) (e .code) ≡ true
 
   -- refusal 4 is on both lists
   held-listed : (held : Bool) (s : Board) (t : Turn) → TurnListed t → TurnListed (ifStackHeld held s t)
   held-listed true s t h = h
   held-listed false s t h = refl
 
-  advance-listed : (t : Board → Turn) → ((s : Board) → I s → TurnListed (t s)) → (n budget : ℕ) (s : Board) → I s → Listed (advance t n budget s)
+  advance-listed : (t : Board → Turn) → ((s : Board) → I s → TurnListed (t s)) → (n budget : ℕ) (s : Board) → I s → ResultListed (advance t n budget s)
   unfolding advance
   advance-listed t f n zero s i = refl
   advance-listed t f n (suc budget) s i = go (λ u h. advance-listed t f (suc n) budget u h) (t s) (f s i)
     where
-      go : ((u : Board) → I u → Listed (advance t (suc n) budget u)) → (u : Turn) → TurnListed u → Listed (going n (λ s. advance t (suc n) budget s) u)
+      go : ((u : Board) → I u → ResultListed (advance t (suc n) budget u)) → (u : Turn) → TurnListed u → ResultListed (going n (λ s. advance t (suc n) budget s) u)
       go g (goes u) h = g u h
       go g (ends reason code u) h = h
 
@@ -168,7 +168,7 @@ pub run-listed : (confined : Bool) (budget level : ℕ) (s : Board)
 unfolding run
 run-listed confined budget level s = go confined (refusal confined level s) (refusal-listed confined level s)
   where
-    go : (confined : Bool) (r : ℕ) → RefusalListed confined s r → Listed confined AnyBoard (unlessRefused r (advance (turnOf confined level) 0 budget s) s)
+    go : (confined : Bool) (r : ℕ) → RefusalListed confined s r → ResultListed confined AnyBoard (unlessRefused r (advance (turnOf confined level) 0 budget s) s)
     go false zero h = advance-listed false AnyBoard (turnOf false level) (λ t _. taken-listed level t) 0 budget s tt
     go true zero h = advance-listed true AtUser (turnOf true level) (λ t u. confined-listed level t u) 0 budget s (h refl)
     go confined (suc r) h = h

@@ -7,7 +7,7 @@ use mathlib.Core.List.{List, [], _∷_, _++_}
 use native.Mathlib.Omega.{arith}
 use lib.Dec.{lit<}
 use Rattle.word.specs.Lists.{contains}
-use Rattle.word.proofs.ListLaws.{allBelow, contains-below}
+use Rattle.word.proofs.ListLaws.{each-at, allBelow, contains-below}
 use Rattle.machine.specs.Registers.{pc, psw, goodBank}
 use Rattle.machine.specs.Status.{reg}
 use Rattle.run_spec.specs.Run.{Board, board, RunResult, refusal, run}
@@ -16,13 +16,13 @@ use Rattle.hex.specs.Output.{newline}
 use Rattle.hex.proofs.DigitLaws.{number-digits}
 use Rattle.board_lines.specs.declared.Frame.{Frame}
 use Rattle.board_lines.specs.Lines.{frameOf}
-use Rattle.board_lines.specs.Answers.{refusedLine, ranLine, stopPlace, codePlace}
+use Rattle.board_lines.specs.Answers.{ranKind, refusedLine, ranLine, stopPlace, codePlace}
 use Rattle.board_conversation.specs.Conversation.{Answered, hasRun, frameAnswer, lineAnswer, conversation, linesOf, startBoard}
 use Rattle.hobbit.specs.Blocks.{RunAnswer, boardIn, blocksOf}
 use Rattle.invariants.specs.StopCodes.{refusalCodes, eventCodes, codesAt, confinedCode, RunStops}
 use Rattle.invariants.proofs.StopCodes.{by-stop, on-confined-list, run-listed, listed-codes, answers-codes}
-use Rattle.isolation_board.specs.Codes.{LentStops, LentCodes, LentAnswered, HobbitStops, HobbitCodes, HobbitAnswered, runFrame, PrintedStops, PrintedCodes, isRunLine, printedLines, ProgramStops, ProgramCodes, ProgramAnswered}
-use Rattle.isolation_board.proofs.PrintedLaws.{every-at, unended, conversation-lines}
+use Rattle.isolation_board.specs.Codes.{LentStops, LentCodes, LentAllows, HobbitStops, HobbitCodes, HobbitAllows, runFrame, PrintedStops, PrintedCodes, isRunLine, printedLines, ProgramStops, ProgramCodes, ProgramAnswered}
+use Rattle.isolation_board.proofs.PrintedLaws.{unended, conversation-lines}
 
 -- ---- by the contracts that are exported, which ask for nothing
 
@@ -52,8 +52,8 @@ hobbit-codes confined = answers-codes confined (HobbitStops confined) as-run
           codeIs = sym (ap (λ (e : RunAnswer). e .code) (a .call tt)) ∙ a .codeIs;
         }
 
-pub lent-answered : LentAnswered
-lent-answered p confined reason code r =
+pub lent-allows : LentAllows
+lent-allows p confined reason code r =
     let e = run confined (r .budget) (r .level) (r .start) in
     record {
       places = p;
@@ -69,8 +69,8 @@ lent-answered p confined reason code r =
       codeIs = r .codeIs;
     }
 
-pub hobbit-answered : HobbitAnswered
-hobbit-answered p confined budget level s =
+pub hobbit-allows : HobbitAllows
+hobbit-allows p confined budget level s =
     let e = run confined budget level (boardIn (s .registers) (s .cache) (s .memory)) in
     record {
       places = p;
@@ -107,11 +107,11 @@ small-code confined code =
 module _ (steps reason code counter status : ℕ) where
   read-stop : numberAt 2 (ranLine steps reason code counter status) stopPlace ≡ reason % 256
   read-stop =
-      number-digits 2 reason (digits 2 0x83 ++ digits 8 steps) (digits 2 code ++ digits 8 counter ++ digits 8 status ++ (newline ∷ []))
+      number-digits 2 reason (digits 2 ranKind ++ digits 8 steps) (digits 2 code ++ digits 8 counter ++ digits 8 status ++ (newline ∷ []))
 
   read-code : numberAt 2 (ranLine steps reason code counter status) codePlace ≡ code % 256
   read-code =
-      number-digits 2 code (digits 2 0x83 ++ digits 8 steps ++ digits 2 reason) (digits 8 counter ++ digits 8 status ++ (newline ∷ []))
+      number-digits 2 code (digits 2 ranKind ++ digits 8 steps ++ digits 2 reason) (digits 8 counter ++ digits 8 status ++ (newline ∷ []))
 
 run-answer : (confined : Bool) (n : ℕ) (s : List ℕ) (b : Board) (budget level : ℕ)
     → frameAnswer n s b (runFrame confined budget level) ≡ hasRun (run confined budget level b)
@@ -189,7 +189,7 @@ program-codes = listed-codes true ProgramStops on-list
     on-list : (reason code : ℕ) → ProgramStops reason code → contains (codesAt true reason) code ≡ true
     on-list reason code a =
         rw (← a .stopIs, ← a .codeIs)
-        (every-at RunLineListed (printedLines (a .input)) (conversation-lines RunLineListed refused-line ran-line 1 (linesOf (a .input)) startBoard) (a .place)
+        (each-at RunLineListed (printedLines (a .input)) [] (conversation-lines RunLineListed refused-line ran-line 1 (linesOf (a .input)) startBoard) (a .place)
         (a .within) (a .ran))
 
 pub program-answered : ProgramAnswered

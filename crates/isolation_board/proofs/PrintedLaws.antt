@@ -1,14 +1,15 @@
 -- What the board program prints, line by line: a line of input prints nothing, or one line of digits.
 -- Assumes nothing.
-use Prim.Native.Nat.{ℕ, zero, suc, _-_, _/_, _%_, _^_, _<_}
+use Prim.Native.Nat.{ℕ, zero, suc, _-_, _/_, _%_, _^_}
 use mathlib.Core.Path.{_≡_, sym, ap, subst, _∙_}
 use mathlib.Core.Bool.{Bool, true, false, _&&_, false≢true}
 use mathlib.Core.List.{List, [], _∷_, _++_, append-assoc, append-nil}
 use borrow.Author.Tests.{eqb-true}
 use native.Mathlib.Omega.{arith}
-use lib.ListN.{length, getD, take}
+use lib.ListN.{length, take}
 use lib.Dec.{eqb}
 use Rattle.word.proofs.CaseLaws.{by-test, and-left, and-right}
+use Rattle.word.proofs.ListLaws.{Each, no-others, _also_}
 use Rattle.machine.specs.Registers.{setRegister}
 use Rattle.run_spec.specs.Run.{Board, run}
 use Rattle.hex.specs.Digits.{isDigit, allDigits, digitByte, digits}
@@ -18,21 +19,12 @@ use Rattle.board_lines.specs.declared.Frame.{Frame}
 use Rattle.board_lines.specs.declared.Frame.the-variants.{Set, Store, Run, Confined, Bad}
 use Rattle.board_lines.specs.Lines.{frameOf, malformedLine}
 use Rattle.board_lines.specs.Stores.{frameStore}
-use Rattle.board_lines.specs.Answers.{refusedLine, ranLine}
+use Rattle.board_lines.specs.Answers.{refusedKind, ranKind, refusedLine, ranLine}
 use Rattle.board_conversation.specs.Conversation.{unlessDone, hasRun, frameAnswer, lineAnswer, next, conversation, linesOf}
 use Rattle.board_conversation.specs.Blocks.{newlineAt}
 use Rattle.board_conversation.proofs.LineLaws.{Plain, lines-on}
 
 -- ---- lines of a text
-
-abbrev pub EveryLine : (List ℕ → Type 0) → List (List ℕ) → Type 0
-EveryLine P [] = Unit
-EveryLine P (s ∷ t) = P s × EveryLine P t
-
-pub every-at : (P : List ℕ → Type 0) (l : List (List ℕ)) → EveryLine P l → (i : ℕ) → i < length l → P (getD l i [])
-every-at P [] e i h = absurd (omega arith)
-every-at P (s ∷ l) e zero h = e .0
-every-at P (s ∷ l) e (suc i) h = every-at P l (e .1) i (omega arith)
 
 -- a digit is no newline
 plain-digits : (s : List ℕ) → allDigits s ≡ true → Plain s
@@ -48,10 +40,10 @@ data LineText (P : List ℕ → Type 0) : List ℕ → Type 0 where
   no-text : LineText P []
   one-line : (b : ℕ) (c : List ℕ) → allDigits (b ∷ c) ≡ true → P (b ∷ c) → LineText P ((b ∷ c) ++ newline ∷ [])
 
-line-lines : (P : List ℕ → Type 0) (t u : List ℕ) → LineText P t → EveryLine P (linesOf u) → EveryLine P (linesOf (t ++ u))
+line-lines : (P : List ℕ → Type 0) (t u : List ℕ) → LineText P t → Each P (linesOf u) → Each P (linesOf (t ++ u))
 unfolding newlineAt
 line-lines P [] u no-text h = h
-line-lines P _ u (one-line b c d p) h = subst (EveryLine P) (sym lines) (p, h)
+line-lines P _ u (one-line b c d p) h = subst (Each P) (sym lines) (p also h)
   where
     lines : linesOf (((b ∷ c) ++ newline ∷ []) ++ u) ≡ (b ∷ c) ∷ linesOf u
     lines =
@@ -72,7 +64,7 @@ module _ (P : List ℕ → Type 0) where
   refused-text : (r n : ℕ) → P (unended (refusedLine r n)) → LineText P (refusedLine r n)
   refused-text r n p =
       let rest = digits 2 r ++ digits 8 n in
-      one-line (digitByte (0x82 / 16 ^ 1 % 16)) (digits 1 0x82 ++ rest) (more-digits 2 0x82 rest (more-digits 2 r (digits 8 n) (all-digits 8 n))) p
+      one-line (digitByte (refusedKind / 16 ^ 1 % 16)) (digits 1 refusedKind ++ rest) (more-digits 2 refusedKind rest (more-digits 2 r (digits 8 n) (all-digits 8 n))) p
 
   ran-text : (n r e c s : ℕ) → P (unended (ranLine n r e c s)) → LineText P (ranLine n r e c s)
   ran-text n r e c s p =
@@ -80,8 +72,8 @@ module _ (P : List ℕ → Type 0) where
       let after-stop = digits 2 e ++ after-code in
       let after-steps = digits 2 r ++ after-stop in
       let rest = digits 8 n ++ after-steps in
-      one-line (digitByte (0x83 / 16 ^ 1 % 16)) (digits 1 0x83 ++ rest)
-      (more-digits 2 0x83 rest (more-digits 8 n after-steps (more-digits 2 r after-stop (more-digits 2 e after-code (more-digits 8 c (digits 8 s) (all-digits 8 s)))))) p
+      one-line (digitByte (ranKind / 16 ^ 1 % 16)) (digits 1 ranKind ++ rest)
+      (more-digits 2 ranKind rest (more-digits 8 n after-steps (more-digits 2 r after-stop (more-digits 2 e after-code (more-digits 8 c (digits 8 s) (all-digits 8 s)))))) p
 
   -- where every line of a refusal is in P, and every line of a run
   module _ (refused : (r n : ℕ) → P (unended (refusedLine r n)))
@@ -101,9 +93,9 @@ module _ (P : List ℕ → Type 0) where
     frame-text n s b (Confined budget level) = run-text true budget level b
     frame-text n s b Bad = refused-text malformedLine n (refused malformedLine n)
 
-    pub conversation-lines : (n : ℕ) (l : List (List ℕ)) (b : Board) → EveryLine P (linesOf (conversation n l b .printed))
+    pub conversation-lines : (n : ℕ) (l : List (List ℕ)) (b : Board) → Each P (linesOf (conversation n l b .printed))
     unfolding conversation linesOf
-    conversation-lines n [] b = tt
+    conversation-lines n [] b = no-others
     conversation-lines n (s ∷ l) b =
         line-lines P (lineAnswer n s b .printed) (conversation (next n) l (lineAnswer n s b .board) .printed) (frame-text n s b (frameOf s))
         (conversation-lines (next n) l (lineAnswer n s b .board))

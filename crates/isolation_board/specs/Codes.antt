@@ -15,7 +15,7 @@ use Rattle.hex.specs.Digits.{numberAt}
 use Rattle.board_lines.specs.declared.Frame.{Frame}
 use Rattle.board_lines.specs.declared.Frame.the-variants.{Run, Confined}
 use Rattle.board_lines.specs.Lines.{frameOf}
-use Rattle.board_lines.specs.Answers.{stopPlace, codePlace}
+use Rattle.board_lines.specs.Answers.{ranKind, stopPlace, codePlace}
 use Rattle.board_conversation.specs.Conversation.{lineAnswer, linesOf, boardProgram}
 use Rattle.hobbit.specs.declared.HobbitAnswer.{HobbitAnswer}
 use Rattle.hobbit.specs.Blocks.{Blocks, boardIn}
@@ -55,11 +55,11 @@ abbrev pub HobbitCodes : Type 0
 HobbitCodes = (confined : Bool) → RunCodes confined (HobbitStops confined)
 
 -- of both there are answers: their contracts allow those of the definition
-abbrev pub LentAnswered : Type 0
-LentAnswered = RunPlaces → (confined : Bool) (stop code : ℕ) → RunStops confined stop code → LentStops confined stop code
+abbrev pub LentAllows : Type 0
+LentAllows = RunPlaces → (confined : Bool) (stop code : ℕ) → RunStops confined stop code → LentStops confined stop code
 
-abbrev pub HobbitAnswered : Type 0
-HobbitAnswered =
+abbrev pub HobbitAllows : Type 0
+HobbitAllows =
     RunPlaces → (confined : Bool) (budget level : ℕ) (s : Blocks)
     → HobbitStops confined (run confined budget level (boardIn (s .registers) (s .cache) (s .memory)) .stop)
     (run confined budget level (boardIn (s .registers) (s .cache) (s .memory)) .code)
@@ -87,7 +87,7 @@ PrintedCodes = (confined : Bool) → RunCodes confined (PrintedStops confined)
 
 -- a printed line is a run's
 abbrev pub isRunLine : List ℕ → Bool
-isRunLine s = eqb (numberAt 2 s 0) 0x83
+isRunLine s = eqb (numberAt 2 s 0) ranKind
 
 abbrev pub printedLines : List ℕ → List (List ℕ)
 printedLines input = linesOf (boardProgram input)

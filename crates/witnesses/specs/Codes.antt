@@ -95,7 +95,7 @@ interruptible = with user psw 0x1_7600
 abbrev pub topmost : Cpu → Cpu
 topmost c = with (with (with c config 0x4_0000) sp 0xFFFF_FFF0) msp 0xFFFF_FFF0
 
-refusals-come : (confined : Bool) → Each (λ code. RunStops confined refused code) (refusalCodes confined)
+refusals-come : (confined : Bool) → Each (RunStops confined refused) (refusalCodes confined)
 unfolding run refusal goodBank advance confinedTurn confinedAttempt actConfined turn step instructionStep attempt act finish fetchInstruction counted executeMonadic executeNormal execute released fetchParcel fetchParcels fetchAfter fetchText onward _>>=_ parcelRequest interpret after touch follow access segmentOf segment nonpagedOf walkFrom walk route decodeShort decodeBare decodeOf load
 refusals-come true =
     comes true 7 user oddPage
@@ -112,7 +112,7 @@ refusals-come false =
     also no-others
 
 -- frame 03 reports none
-events-come : (confined : Bool) → Each (λ code. RunStops confined eventDue code) (eventCodes confined)
+events-come : (confined : Bool) → Each (RunStops confined eventDue) (eventCodes confined)
 unfolding run refusal goodBank advance confinedTurn confinedAttempt actConfined fetchInstruction executeNormal execute checkDivisor compute move perform dyadic located locate readPlace readOperand writePlace checkRegisters fetchParcel fetchParcels fetchAfter fetchPrefixed fetchText onward _>>=_ request parcelRequest readMemory readData writeMemory writeData interpret after touch follow access segmentOf segment nonpagedOf walkFrom walk route decodeShort decodeDyadic decodeWide decodePrefixed decodeBare decodeOf load storeAnswer storeMemory
 events-come false = no-others
 events-come true =
@@ -144,19 +144,17 @@ events-come true =
     also comes true 7 user (mappedText (0x2000 ∷ []))
     also no-others
 
-spent-comes : (confined : Bool) → Each (λ code. RunStops confined budgetSpent code) (0 ∷ [])
+spent-comes : (confined : Bool) → Each (RunStops confined budgetSpent) (0 ∷ [])
 unfolding run refusal goodBank advance confinedTurn confinedAttempt actConfined turn step instructionStep attempt act finish fetchInstruction counted executeNiladic executeNormal execute fetchParcel fetchParcels fetchAfter fetchText onward _>>=_ parcelRequest interpret after touch follow access segmentOf segment nonpagedOf walkFrom walk route decodeShort decodeBare decodeOf load
 spent-comes true = comes true 7 user idle also no-others
 spent-comes false = comes false 7 kernel idle also no-others
 
 pub every-code : EveryCode
 every-code confined stop code =
-    by-stop (λ r l. (code : ℕ) → contains l code ≡ true → RunStops confined r code) confined (each budgetSpent (0 ∷ []) (spent-comes confined))
-    (each refused (refusalCodes confined) (refusals-come confined)) (each eventDue (eventCodes confined) (events-come confined))
-    (λ r code h. absurd (false≢true h)) stop code
-  where
-    each : (r : ℕ) (l : List ℕ) → Each (λ code. RunStops confined r code) l → (code : ℕ) → contains l code ≡ true → RunStops confined r code
-    each r l e = contains-each (λ code. RunStops confined r code) l e
+    by-stop (λ r l. (code : ℕ) → contains l code ≡ true → RunStops confined r code) confined
+    (contains-each (RunStops confined budgetSpent) (0 ∷ []) (spent-comes confined))
+    (contains-each (RunStops confined refused) (refusalCodes confined) (refusals-come confined))
+    (contains-each (RunStops confined eventDue) (eventCodes confined) (events-come confined)) (λ r code h. absurd (false≢true h)) stop code
 
 pub answeredCodes-checked : T (all answeredCodes)
 unfolding answeredCodes run refusal goodBank advance turn step instructionStep attempt act finish exceptionStep exceptionSequence pushFrame pushPair throughVector frameRequest readFrame writeFrame confinedTurn confinedAttempt actConfined fetchInstruction counted executeNormal execute move perform dyadic located locate readPlace readOperand writeRegister writePlace checkRegisters fetchParcel fetchParcels fetchAfter fetchPrefixed fetchText onward _>>=_ request parcelRequest writeMemory writeData interpret after touch follow access segmentOf segment nonpagedOf walkFrom walk route decodeDyadic decodeWide decodePrefixed decodeOf load storeAnswer storeMemory digitOf digitByte frameOf frameAnswer

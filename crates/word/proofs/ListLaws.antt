@@ -1,11 +1,12 @@
--- Numbers that a list contains.
+-- What holds of each of a list, and numbers that it contains.
 -- Assumes nothing.
-use Prim.Native.Nat.{ℕ, _<_}
+use Prim.Native.Nat.{ℕ, zero, suc, _<_}
 use mathlib.Core.Path.{_≡_, refl, sym, subst}
 use mathlib.Core.Bool.{Bool, true, _&&_}
 use mathlib.Core.List.{List, [], _∷_, _++_}
 use native.Mathlib.Omega.{arith}
 use borrow.Author.Tests.{eqb-true, ltb-true}
+use lib.ListN.{length, getD}
 use lib.Dec.{eqb, ltb}
 use Rattle.word.specs.Lists.{contains}
 use Rattle.word.proofs.CaseLaws.{by-test, not-both, and-left, and-right}
@@ -19,11 +20,16 @@ pub contains-right : (x : ℕ) (l r : List ℕ) → contains r x ≡ true → co
 contains-right x [] r h = h
 contains-right x (y ∷ l) r h = by-test (eqb x y) (λ e. rw e refl) (λ e. rw e (contains-right x l r h))
 
--- what holds of each of a list holds of what it contains
+-- what holds of each of a list holds of what stands at a place of it, and of a number that it contains
 infixr 20 _also_
-pub data Each (P : ℕ → Type 0) : List ℕ → Type 0 where
+pub data Each {A : Type 0} (P : A → Type 0) : List A → Type 0 where
   no-others : Each P []
-  _also_ : {y : ℕ} {l : List ℕ} → P y → Each P l → Each P (y ∷ l)
+  _also_ : {y : A} {l : List A} → P y → Each P l → Each P (y ∷ l)
+
+pub each-at : {A : Type 0} (P : A → Type 0) (l : List A) (d : A) → Each P l → (i : ℕ) → i < length l → P (getD l i d)
+each-at P [] d no-others i h = absurd (omega arith)
+each-at P (y ∷ l) d (p also e) zero h = p
+each-at P (y ∷ l) d (p also e) (suc i) h = each-at P l d e i (omega arith)
 
 pub contains-each : (P : ℕ → Type 0) (l : List ℕ) → Each P l → (x : ℕ) → contains l x ≡ true → P x
 contains-each P [] no-others x h = not-both h
