@@ -11,7 +11,8 @@ use lib.Seq.{drop-cons, drop-drop, getD-drop}
 use lib.Dec.{eqb, leb}
 use borrow.Author.Tests.{eq-eqb, ne-eqb, le-leb, lt-leb, leb-true, leb-false}
 use Rattle.word.proofs.CaseLaws.{by-test}
-use Rattle.board_conversation.specs.Blocks.{newlineAt, ontoEnded, endedLines}
+use Rattle.board_lines.specs.Texts.{newlineAt}
+use Rattle.board_conversation.specs.Blocks.{ontoEnded, endedLines}
 
 -- ---- the search
 

@@ -1,4 +1,4 @@
--- The lines of a text: the first of them, and those of a text in two parts.
+-- The lines of a text whose first lines are taken.
 -- Assumes nothing.
 use mathlib.Core.Path.{_≡_, refl, sym, ap, _∙_}
 use mathlib.Core.Bool.{Bool, true, _&&_}
@@ -6,47 +6,14 @@ use mathlib.Core.List.{List, [], _∷_, _++_}
 use Prim.Native.Nat.{ℕ, zero, suc, _+_, _≤_, _<_}
 use native.Mathlib.Omega.{arith}
 use lib.ListN.{length, take, drop, length-drop}
-use lib.Seq.{take-append-add, drop-append-add, drop-drop, length-take-le}
+use lib.Seq.{drop-drop, length-take-le}
 use lib.Dec.{eqb, ltb}
 use borrow.Author.Tests.{ltb-true, ltb-false}
 use Rattle.word.proofs.CaseLaws.{by-test}
 use Rattle.board_lines.specs.Lines.{frameOf}
-use Rattle.board_conversation.specs.Conversation.{onto, linesOf}
-use Rattle.board_conversation.specs.Blocks.{newlineAt, endedLines, isLongRun, together, sizeOf}
+use Rattle.board_lines.specs.Texts.{onto, linesOf, newlineAt}
+use Rattle.board_conversation.specs.Blocks.{endedLines, isLongRun, together, sizeOf}
 use Rattle.board_conversation.proofs.BlockLaws.{ended-first, ended-none}
-
--- no newline is in it
-abbrev pub Plain : List ℕ → Type 0
-Plain t = length t ≤ newlineAt t
-
--- ---- the first line
-
-pub lines-first : (b : ℕ) (t : List ℕ)
-    → linesOf (b ∷ t) ≡ take (newlineAt (b ∷ t)) (b ∷ t) ∷ linesOf (drop (suc (newlineAt (b ∷ t))) (b ∷ t))
-unfolding linesOf newlineAt
-lines-first b [] = by-test (eqb b 10) (λ e. rw e refl) (λ e. rw e refl)
-lines-first b (x ∷ t) = by-test (eqb b 10) (λ e. rw e refl) (λ e. rw e (ap (onto b) (lines-first x t)))
-
-newline-on : (c u : List ℕ) → Plain c → newlineAt (c ++ u) ≡ length c + newlineAt u
-unfolding newlineAt
-newline-on [] u h = omega arith
-newline-on (b ∷ c) u h =
-    by-test (eqb b 10)
-    (λ e. absurd (omega (arith, rw e at h)))
-    (λ e. let g : length c ≤ newlineAt c = omega (arith, rw e at h) in
-    rw e (omega (arith, newline-on c u g)))
-
--- a text that begins with bytes of an unended line
-pub lines-on : (b : ℕ) (c u : List ℕ) → Plain (b ∷ c)
-    → linesOf ((b ∷ c) ++ u) ≡ ((b ∷ c) ++ take (newlineAt u) u) ∷ linesOf (drop (suc (newlineAt u)) u)
-lines-on b c u h =
-    let e : newlineAt ((b ∷ c) ++ u) ≡ length (b ∷ c) + newlineAt u = newline-on (b ∷ c) u h in
-    let g : suc (newlineAt ((b ∷ c) ++ u)) ≡ length (b ∷ c) + suc (newlineAt u) = omega (arith, e) in
-    lines-first b (c ++ u)
-    ∙ (λ i. take (e i) ((b ∷ c) ++ u) ∷ linesOf (drop (g i) ((b ∷ c) ++ u)))
-    ∙ (λ i. take-append-add (b ∷ c) u (newlineAt u) i ∷ linesOf (drop-append-add (b ∷ c) u (suc (newlineAt u)) i))
-
--- ---- a text whose first lines are taken
 
 -- the first line, where one ends
 lines-ended : (t u : List ℕ) → newlineAt t < length t

@@ -12,11 +12,17 @@ use borrow.Author.Tests.{leb-true, leb-false, ltb-false}
 use Rattle.word.proofs.CaseLaws.{by-test}
 use Rattle.run_spec.specs.Run.{Board}
 use Rattle.board_lines.proofs.FrameLaws.{too-long}
-use Rattle.board_conversation.specs.Conversation.{Answered, lineAnswer, frameAnswer, printedAfter, next, conversation, linesOf, startBoard, boardProgram}
+use Rattle.board_lines.specs.Texts.{linesOf, newlineAt}
+use Rattle.board_lines.specs.Totals.{Totals, totalsLine}
+use Rattle.board_lines.specs.Printouts.{Tally, totalsAt, startTally, linesAdded}
+use Rattle.board_lines.proofs.TextLaws.{Plain, lines-on}
+use Rattle.board_lines.proofs.TotalsLaws.{added-totals}
+use Rattle.board_conversation.specs.Conversation.{Answered, lineAnswer, frameAnswer, printedAfter, next, conversation, startBoard, boardProgram}
 use Rattle.board_conversation.specs.Code.{BoardIo}
-use Rattle.board_conversation.specs.Blocks.{newlineAt, endsLine, sizeOf, lastOf}
+use Rattle.board_conversation.specs.Blocks.{endsLine, sizeOf, lastOf}
 use Rattle.board_conversation.specs.Loop.{exchangeLines, mostCarried, carriedOf, exchangeOf, lastLine, streamed, whole}
-use Rattle.board_conversation.proofs.LineLaws.{Plain, lines-on, lines-split}
+use Rattle.board_conversation.proofs.LineLaws.{lines-split}
+use Rattle.board_conversation.proofs.PrintedLaws.{conversation-added}
 
 -- ---- lines after lines
 
@@ -97,22 +103,38 @@ end-lines n t d h =
     let rest = drop (sizeOf (exchangeLines t)) t in
     rw h (last-line (take mostCarried rest) (plain-take mostCarried rest (ltb-false (newlineAt rest) (length rest) h)))
 
-pub streamed-is : (xs : List (List ℕ)) (n : ℕ) (c : List ℕ) (b : Board)
-    → streamed n c xs b ≡ conversation (next n) (linesOf (c ++ whole xs)) b .printed
+-- a text and the totals after it, after the tally k
+abbrev ending : Tally → List ℕ → List ℕ
+ending k t = t ++ totalsLine (totalsAt (linesAdded (linesOf t) k))
+
+ending-after : (n : ℕ) (l : List (List ℕ)) (b : Board) (k : Tally) (w : List ℕ)
+    → conversation n l b .printed ++ ending (linesAdded (linesOf (conversation n l b .printed)) k) w ≡ ending k (conversation n l b .printed ++ w)
+ending-after n l b k w =
+    let t = conversation n l b .printed in
+    sym (append-assoc t w (totalsLine (totalsAt (linesAdded (linesOf w) (linesAdded (linesOf t) k)))))
+    ∙ ap (λ (c : Tally). (t ++ w) ++ totalsLine (totalsAt c)) (conversation-added n b w k l)
+
+pub streamed-is : (xs : List (List ℕ)) (n : ℕ) (c : List ℕ) (k : Tally) (b : Board)
+    → streamed n c xs k b ≡ ending k (conversation (next n) (linesOf (c ++ whole xs)) b .printed)
 unfolding streamed
-streamed-is [] n c b = ap (λ (t : List ℕ). conversation (next n) (linesOf t) b .printed) (sym (append-nil c))
-streamed-is (x ∷ xs) n c b =
+streamed-is [] n c k b = ap (λ (t : List ℕ). ending k (conversation (next n) (linesOf t) b .printed)) (sym (append-nil c))
+streamed-is (x ∷ xs) n c k b =
     let t = c ++ x in
     let l = exchangeLines t in
     let a = conversation (next n) l b in
+    let after = linesAdded (linesOf (a .printed)) k in
     let rest = drop (sizeOf l) t in
     ap (λ (w : List ℕ). a .printed ++ w)
-    (streamed-is xs (lastOf n l) (carriedOf rest) (a .board)
-    ∙ ap (λ (y : Answered). y .printed) (kept-lines (next (lastOf n l)) rest (whole xs) (a .board)))
-    ∙ sym (conversed n l (linesOf (rest ++ whole xs)) b)
+    (streamed-is xs (lastOf n l) (carriedOf rest) after (a .board)
+    ∙ ap (λ (y : Answered). ending after (y .printed)) (kept-lines (next (lastOf n l)) rest (whole xs) (a .board)))
+    ∙ ending-after (next n) l b k (conversation (next (lastOf n l)) (linesOf (rest ++ whole xs)) (a .board) .printed)
+    ∙ ap (ending k)
+    (sym (conversed n l (linesOf (rest ++ whole xs)) b)
     ∙ sym (ap (λ (y : List (List ℕ)). conversation (next n) y b .printed) (lines-split (whole xs) false t))
-    ∙ ap (λ (y : List ℕ). conversation (next n) (linesOf y) b .printed) (append-assoc c x (whole xs))
+    ∙ ap (λ (y : List ℕ). conversation (next n) (linesOf y) b .printed) (append-assoc c x (whole xs)))
 
--- the board program's answers, in whatever pieces its input comes
-pub stream : (xs : List (List ℕ)) → streamed 0 [] xs startBoard ≡ boardProgram (whole xs)
-stream xs = streamed-is xs 0 [] startBoard
+-- the board program's answers and their totals, in whatever pieces its input comes
+pub stream : (xs : List (List ℕ)) → streamed 0 [] xs startTally startBoard ≡ boardProgram (whole xs)
+stream xs =
+    let t = conversation 1 (linesOf (whole xs)) startBoard .printed in
+    streamed-is xs 0 [] startTally startBoard ∙ ap (λ (k : Totals). t ++ totalsLine k) (added-totals (linesOf t))

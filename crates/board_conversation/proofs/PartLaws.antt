@@ -10,10 +10,14 @@ use lib.Seq.{take-all, take-nil, length-take-le, drop-drop}
 use lib.Dec.{ltb}
 use borrow.Author.Tests.{ltb-true, ltb-false}
 use Rattle.word.proofs.CaseLaws.{by-test}
+use Rattle.run_spec.specs.Run.{Board}
+use Rattle.hex.specs.Output.{Output, printed}
+use Rattle.board_lines.specs.Totals.{totalsLine}
+use Rattle.board_lines.specs.Printouts.{Tally, totalsAt, printout}
 use Rattle.board_conversation.specs.Conversation.{next}
-use Rattle.board_conversation.specs.Code.{BoardIo, lineOn}
+use Rattle.board_conversation.specs.Code.{BoardIo, boardIo, lineOn}
 use Rattle.board_conversation.specs.Blocks.{endsLine, LineAnswered, lineAnswered, answeredUnless, linesOn, BlockAnswered, blockAnswered, blockOn}
-use Rattle.board_conversation.specs.Loop.{carriedOf, exchange, exchangeOf, lastLine}
+use Rattle.board_conversation.specs.Loop.{carriedOf, exchange, exchangeOf, lastLine, totalsOn}
 use Rattle.board_conversation.proofs.LineLaws.{lines-within}
 
 drop-take : (f e : ℕ) (b : List ℕ) → f ≤ e → drop f (take e b) ≡ take (e - f) (drop f b)
@@ -93,22 +97,28 @@ module _ (b : List ℕ) (from end e f : ℕ) (le : Least end (length b) e) (lf :
 
   -- ---- the end of input
 
-  pub none-left : (n : ℕ) (d : BoardIo) → f ≡ e → d ≡ linesOn (next n) (lastLine (drop from (take end b))) d
+  pub none-left : (n : ℕ) (d : Board) (o o′ : Output) (k : Tally) → f ≡ e → o′ ≡ printed (totalsLine (totalsAt k)) o
+      → boardIo d (printout o′ k) ≡ totalsOn (linesOn (next n) (lastLine (drop from (take end b))) (boardIo d (printout o k)))
   unfolding linesOn
-  none-left n d h =
+  none-left n d o o′ k h x =
       let z : e - f ≡ 0 = omega arith in
-      let g : drop from (take end b) ≡ [] = sym part ∙ ap (λ (k : ℕ). take k (drop f b)) z in
-      rw g refl
+      let g : drop from (take end b) ≡ [] = sym part ∙ ap (λ (i : ℕ). take i (drop f b)) z in
+      rw g (ap (λ (y : Output). boardIo d (printout y k)) x)
 
-  pub one-left : (n k : ℕ) (d d₀ : BoardIo) (w : Bool) → (f ≡ e → ⊥) → k ≡ (n + 1) % 2 ^ 32
-      → lineAnswered d w ≡ answeredUnless false k (take (e - f) (drop f b)) d₀ → d ≡ linesOn (next n) (lastLine (drop from (take end b))) d₀
+  pub one-left : (n i : ℕ) (d : Board) (d₀ : BoardIo) (o o′ : Output) (k : Tally) (w : Bool) → (f ≡ e → ⊥) → i ≡ (n + 1) % 2 ^ 32
+      → lineAnswered (boardIo d (printout o k)) w ≡ answeredUnless false i (take (e - f) (drop f b)) d₀
+      → o′ ≡ printed (totalsLine (totalsAt k)) o
+      → boardIo d (printout o′ k) ≡ totalsOn (linesOn (next n) (lastLine (drop from (take end b))) d₀)
   unfolding linesOn
-  one-left n k d d₀ w h i j =
-      ap (λ (x : LineAnswered). x .boardIo) j ∙ ap (λ (x : ℕ). lineOn x t d₀) i ∙ go t (omega (arith, part-length, lf .1, h)) ∙ ap (λ (s : List ℕ). linesOn (next n) (lastLine s) d₀) part
+  one-left n i d d₀ o o′ k w h g j x =
+      ap (λ (y : Output). boardIo d (printout y k)) x
+      ∙ ap totalsOn
+      (ap (λ (y : LineAnswered). y .boardIo) j ∙ ap (λ (y : ℕ). lineOn y t d₀) g ∙ go t (omega (arith, part-length, lf .1, h))
+      ∙ ap (λ (s : List ℕ). linesOn (next n) (lastLine s) d₀) part)
     where
       t : List ℕ
       t = take (e - f) (drop f b)
 
       go : (s : List ℕ) → 0 < length s → lineOn (next n) s d₀ ≡ linesOn (next n) (lastLine s) d₀
       go [] p = absurd (omega arith)
-      go (x ∷ s) p = refl
+      go (y ∷ s) p = refl

@@ -2,7 +2,7 @@
 -- Assumes nothing.
 use mathlib.Core.Path.{_≡_, refl, sym, ap, _∙_}
 use mathlib.Core.Bool.{Bool, true, false, _&&_}
-use mathlib.Core.List.{List, [], _∷_}
+use mathlib.Core.List.{List, [], _∷_, _++_}
 use Prim.Native.Nat.{ℕ, zero, suc, _+_, _*_, _≤_}
 use native.Mathlib.Nat.{add-assoc, add-zero}
 use native.Mathlib.Omega.{arith}
@@ -11,17 +11,23 @@ use lib.Dec.{eqb}
 use Rattle.word.proofs.CaseLaws.{by-test}
 use Rattle.run_spec.specs.Run.{Board}
 use Rattle.machine.specs.Registers.{setRegister}
-use Rattle.hex.specs.Output.{Output, output, written, printed}
+use Rattle.hex.specs.Output.{Output, output, written}
 use Rattle.hex.proofs.OutputLaws.{length-written, written-on, room-printed}
 use Rattle.board_lines.specs.declared.Frame.{Frame}
 use Rattle.board_lines.specs.declared.Frame.the-variants.{Set, Store, Run, Confined, Bad}
 use Rattle.board_lines.specs.Lines.{isLength, frameOf}
 use Rattle.board_lines.specs.Stores.{frameStore}
 use Rattle.board_lines.proofs.FrameLaws.{least, bad-length}
-use Rattle.board_conversation.specs.Conversation.{Answered, unlessDone, lineAnswer, frameAnswer, next, conversation}
+use Rattle.board_lines.specs.Answers.{unlessDone}
+use Rattle.board_lines.specs.Texts.{linesOf}
+use Rattle.board_lines.specs.Totals.{totalsLine}
+use Rattle.board_lines.specs.Printouts.{Tally, totalsAt, Printout, printout, linesAdded}
+use Rattle.board_lines.proofs.TotalsLaws.{tallied-room}
+use Rattle.board_conversation.specs.Conversation.{Answered, lineAnswer, frameAnswer, next, conversation}
 use Rattle.board_conversation.specs.Code.{BoardIo, boardIo}
 use Rattle.board_conversation.specs.Blocks.{ontoEnded, endedLines, isLongRun, together, linesOn}
-use Rattle.board_conversation.specs.Loop.{exchangeLines, exchangeOf, lastLine}
+use Rattle.board_conversation.specs.Loop.{exchangeLines, exchangeOf, lastLine, totalsOn}
+use Rattle.board_conversation.proofs.PrintedLaws.{answer-added}
 
 -- ---- what a line prints at most
 
@@ -55,23 +61,29 @@ room (s ∷ t) = suc (length s) * 13 + room t
 
 -- ---- lines one after the other
 
--- the board and the buffer after a conversation
-abbrev answeredOver : Answered → List ℕ → ℕ → BoardIo
-answeredOver a o p = boardIo (a .board) (output (written o p (a .printed)) (p + length (a .printed)))
+-- a text after another
+on-output : (t w o : List ℕ) (p : ℕ)
+    → output (written (written o p t) (p + length t) w) (p + length t + length w) ≡ output (written o p (t ++ w)) (p + length (t ++ w))
+on-output t w o p i =
+    output (written-on t w o p i) ((add-assoc p (length t) (length w) ∙ ap (λ (x : ℕ). p + x) (sym (length-append t w))) i)
 
-roomy : (l : List (List ℕ)) (n : ℕ) (b : Board) (o : List ℕ) (p : ℕ) → p + room l ≤ length o
-    → linesOn n l (boardIo b (output o p)) ≡ answeredOver (conversation n l b) o p
-unfolding linesOn conversation room
-roomy [] n b o p h = (λ i. boardIo b (output o (sym (add-zero p) i)))
-roomy (s ∷ l) n b o p h =
+-- the board and the buffer after a conversation, and the tally
+abbrev answeredOver : Answered → List ℕ → ℕ → Tally → BoardIo
+answeredOver a o p k =
+    boardIo (a .board) (printout (output (written o p (a .printed)) (p + length (a .printed))) (linesAdded (linesOf (a .printed)) k))
+
+roomy : (l : List (List ℕ)) (n : ℕ) (b : Board) (o : List ℕ) (p : ℕ) (k : Tally) → p + room l ≤ length o
+    → linesOn n l (boardIo b (printout (output o p) k)) ≡ answeredOver (conversation n l b) o p k
+unfolding linesOn conversation room linesAdded linesOf
+roomy [] n b o p k h = (λ i. boardIo b (printout (output o (sym (add-zero p) i)) k))
+roomy (s ∷ l) n b o p k h =
     let a = lineAnswer n s b in
     let t = a .printed in
     let w = conversation (next n) l (a .board) .printed in
-    let k = answer-short n s b in
-    ap (λ (x : Output). linesOn (next n) l (boardIo (a .board) x)) (room-printed t o p (omega arith))
-    ∙ roomy l (next n) (a .board) (written o p t) (p + length t) (rw (length-written t o p) (omega arith))
-    ∙ (λ i. boardIo (conversation (next n) l (a .board) .board)
-    (output (written-on t w o p i) ((add-assoc p (length t) (length w) ∙ ap (λ (x : ℕ). p + x) (sym (length-append t w))) i)))
+    let short = answer-short n s b in
+    ap (λ (x : Printout). linesOn (next n) l (boardIo (a .board) x)) (tallied-room t o p k (omega arith))
+    ∙ roomy l (next n) (a .board) (written o p t) (p + length t) (linesAdded (linesOf t) k) (rw (length-written t o p) (omega arith))
+    ∙ (λ i. boardIo (conversation (next n) l (a .board) .board) (printout (on-output t w o p i) (answer-added n b w k s i)))
 
 room-onto : (b : ℕ) (l : List (List ℕ)) → room (ontoEnded b l) ≤ 13 + room l
 unfolding room
@@ -94,18 +106,45 @@ room-together begun (s ∷ l) =
 
 -- ---- an exchange of the loop
 
-pub exchange-printed : (n : ℕ) (t : List ℕ) (b : Board) (o : List ℕ) → length t * 13 ≤ length o
-    → exchangeOf n t (boardIo b (output o 0)) .boardIo ≡ answeredOver (conversation (next n) (exchangeLines t) b) o 0
-exchange-printed n t b o h =
-    roomy (exchangeLines t) (next n) b o 0 (omega (arith, room-ended t, room-together false (endedLines t)))
+pub exchange-printed : (n : ℕ) (t : List ℕ) (b : Board) (o : List ℕ) (k : Tally) → length t * 13 ≤ length o
+    → exchangeOf n t (boardIo b (printout (output o 0) k)) .boardIo ≡ answeredOver (conversation (next n) (exchangeLines t) b) o 0 k
+exchange-printed n t b o k h =
+    roomy (exchangeLines t) (next n) b o 0 k (omega (arith, room-ended t, room-together false (endedLines t)))
 
--- ---- the end of input
+-- ---- the end of input: the last line's answer, and the totals
+
+abbrev endedOver : Answered → List ℕ → Tally → BoardIo
+endedOver a o k =
+    boardIo (a .board) (printout (output (written o 0 (a .printed ++ totalsLine (totalsAt k))) (0 + length (a .printed ++ totalsLine (totalsAt k)))) k)
 
 room-last : (c : List ℕ) → room (lastLine c) ≤ suc (length c) * 13
 unfolding room
 room-last [] = omega arith
 room-last (b ∷ c) = omega arith
 
-pub end-printed : (n : ℕ) (c : List ℕ) (b : Board) (o : List ℕ) → suc (length c) * 13 ≤ length o
-    → linesOn (next n) (lastLine c) (boardIo b (output o 0)) ≡ answeredOver (conversation (next n) (lastLine c) b) o 0
-end-printed n c b o h = roomy (lastLine c) (next n) b o 0 (omega (arith, room-last c))
+-- what lines print is within the room that they need
+printed-room : (l : List (List ℕ)) (n : ℕ) (b : Board) → length (conversation n l b .printed) ≤ room l
+unfolding conversation room
+printed-room [] n b = omega arith
+printed-room (s ∷ l) n b =
+    let a = lineAnswer n s b in
+    let w = conversation (next n) l (a .board) .printed in
+    omega (arith, length-append (a .printed) w, answer-short n s b, printed-room l (next n) (a .board))
+
+pub end-printed : (n : ℕ) (c : List ℕ) (b : Board) (o : List ℕ) (k : Tally) → suc (length c) * 13 + 27 ≤ length o
+    → totalsOn (linesOn (next n) (lastLine c) (boardIo b (printout (output o 0) k)))
+    ≡ endedOver (conversation (next n) (lastLine c) b) o (linesAdded (linesOf (conversation (next n) (lastLine c) b .printed)) k)
+end-printed n c b o k h =
+    ap totalsOn (roomy (lastLine c) (next n) b o 0 k (omega (arith, room-last c)))
+    ∙ ap (λ (x : Output). boardIo (a .board) (printout x t))
+    (room-printed (totalsLine (totalsAt t)) (written o 0 w) (0 + length w)
+    (rw (length-written w o 0) (omega (arith, room-last c, printed-room (lastLine c) (next n) b))) ∙ on-output w (totalsLine (totalsAt t)) o 0)
+  where
+    a : Answered
+    a = conversation (next n) (lastLine c) b
+
+    w : List ℕ
+    w = a .printed
+
+    t : Tally
+    t = linesAdded (linesOf w) k

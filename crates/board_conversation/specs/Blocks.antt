@@ -9,13 +9,9 @@ use Rattle.hex.specs.Output.{newline}
 use Rattle.board_lines.specs.declared.Frame.{Frame}
 use Rattle.board_lines.specs.declared.Frame.the-variants.{Set, Store, Run, Confined, Bad}
 use Rattle.board_lines.specs.Lines.{frameOf}
+use Rattle.board_lines.specs.Texts.{newlineAt}
 use Rattle.board_conversation.specs.Conversation.{next}
 use Rattle.board_conversation.specs.Code.{BoardIo, lineOn}
-
--- the place of the first newline, or the length
-unfoldable pub newlineAt : List ℕ → ℕ
-newlineAt [] = 0
-newlineAt (b ∷ t) = cond (eqb b newline) 0 (suc (newlineAt t))
 
 -- whether a line ends in a text
 abbrev pub endsLine : List ℕ → Bool

@@ -1,21 +1,21 @@
 -- The conversation of the board program: a board, lines of input, and what is printed (document 01, "The board program and
 -- its frames").
 -- Assumes nothing.
-use Prim.Native.Nat.{ℕ, zero, suc, _+_, _%_, _^_}
-use mathlib.Core.Bool.{true, false, cond}
+use Prim.Native.Nat.{ℕ, _+_, _%_, _^_}
+use mathlib.Core.Bool.{true, false}
 use mathlib.Core.List.{List, [], _∷_, _++_}
 use lib.ListN.{replicate}
-use lib.Dec.{eqb}
 use Rattle.machine.specs.Registers.{pc, psw, Setting, setRegister, startBank}
 use Rattle.machine.specs.Status.{cpu, reg}
 use Rattle.machine.specs.Record.{zeroCache}
 use Rattle.run_spec.specs.Run.{Board, board, RunResult, run}
-use Rattle.hex.specs.Output.{newline}
 use Rattle.board_lines.specs.declared.Frame.{Frame}
 use Rattle.board_lines.specs.declared.Frame.the-variants.{Set, Store, Run, Confined, Bad}
 use Rattle.board_lines.specs.Lines.{frameOf, malformedLine}
 use Rattle.board_lines.specs.Stores.{StoreResult, frameStore}
-use Rattle.board_lines.specs.Answers.{refusedLine, ranLine}
+use Rattle.board_lines.specs.Answers.{refusedLine, unlessDone, ranLine}
+use Rattle.board_lines.specs.Texts.{linesOf}
+use Rattle.board_lines.specs.Totals.{totalsOf, totalsLine}
 
 -- the board after a line, and what the line prints
 pub record Answered : Type 0 where
@@ -24,11 +24,6 @@ pub record Answered : Type 0 where
 
 abbrev pub answered : Board → List ℕ → Answered
 answered b t = record { board = b; printed = t }
-
--- "Kinds 01 and 02 print nothing if done"
-abbrev pub unlessDone : ℕ → ℕ → List ℕ
-unlessDone n zero = []
-unlessDone n (suc r) = refusedLine (suc r) n
 
 abbrev pub wasSet : ℕ → Board → Setting → Answered
 wasSet n b t = answered (board (cpu (t .bank) (b .cpu .cache)) (b .memory)) (unlessDone n (t .refusal))
@@ -63,23 +58,19 @@ unfoldable pub conversation : ℕ → List (List ℕ) → Board → Answered
 conversation n [] b = answered b []
 conversation n (s ∷ t) b = printedAfter (lineAnswer n s b .printed) (conversation (next n) t (lineAnswer n s b .board))
 
--- ---- the lines of a text: each ended by a newline, but the last perhaps by the end of input; nothing after the last newline
--- is no line
+-- ---- "At the end of input the board prints one more line": the totals of what was printed before it (request (b))
 
--- a byte in front of the first line
-abbrev pub onto : ℕ → List (List ℕ) → List (List ℕ)
-onto b [] = (b ∷ []) ∷ []
-onto b (s ∷ t) = (b ∷ s) ∷ t
+abbrev pub withTotals : List ℕ → List ℕ
+withTotals t = t ++ totalsLine (totalsOf (linesOf t))
 
-unfoldable pub linesOf : List ℕ → List (List ℕ)
-linesOf [] = []
-linesOf (b ∷ t) = cond (eqb b newline) ([] ∷ linesOf t) (onto b (linesOf t))
+-- what is printed for an input, by a board
+abbrev pub programOn : Board → List ℕ → List ℕ
+programOn b input = withTotals (conversation 1 (linesOf input) b .printed)
 
 -- ---- the board program: 65,536 zero bytes, ID 0x0000003B, every other register 0, nothing due
 
 abbrev pub startBoard : Board
 startBoard = board (cpu startBank zeroCache) (replicate 65536 0)
 
--- what is printed for an input
 abbrev pub boardProgram : List ℕ → List ℕ
-boardProgram input = conversation 1 (linesOf input) startBoard .printed
+boardProgram input = programOn startBoard input

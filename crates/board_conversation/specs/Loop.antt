@@ -6,8 +6,12 @@ use mathlib.Core.List.{List, [], _∷_, _++_}
 use lib.ListN.{take, drop}
 use Rattle.run_spec.specs.Run.{Board}
 use Rattle.board_conversation.specs.declared.LoopState.{LoopState}
-use Rattle.board_conversation.specs.Conversation.{Answered, next, conversation, linesOf}
-use Rattle.board_conversation.specs.Code.{BoardIo}
+use Rattle.hex.specs.Output.{printed}
+use Rattle.board_lines.specs.Texts.{linesOf}
+use Rattle.board_lines.specs.Totals.{totalsLine}
+use Rattle.board_lines.specs.Printouts.{Tally, totalsAt, Printout, printout, linesAdded}
+use Rattle.board_conversation.specs.Conversation.{Answered, next, conversation}
+use Rattle.board_conversation.specs.Code.{BoardIo, boardIo}
 use Rattle.board_conversation.specs.Blocks.{endsLine, endedLines, together, sizeOf, linesOn, lastOf}
 
 -- the lines that are answered before the next write
@@ -52,18 +56,25 @@ abbrev pub lastLine : List ℕ → List (List ℕ)
 lastLine [] = []
 lastLine (b ∷ s) = (b ∷ s) ∷ []
 
+-- and after it the totals of all that was printed
+abbrev pub totalsPrinted : Printout → Printout
+totalsPrinted p = printout (printed (totalsLine (totalsAt (p .tally))) (p .output)) (p .tally)
+
+abbrev pub totalsOn : BoardIo → BoardIo
+totalsOn d = boardIo (d .board) (totalsPrinted (d .printout))
+
 -- ---- all exchanges
 
--- the lines of an exchange, and what the rest of the input prints then
-abbrev pub thenPrinted : Answered → (Board → List ℕ) → List ℕ
-thenPrinted a rest = a .printed ++ rest (a .board)
+-- the lines of an exchange, and what the rest of the input prints then, with the tally so far
+abbrev pub thenPrinted : Answered → Tally → (Tally → Board → List ℕ) → List ℕ
+thenPrinted a k rest = a .printed ++ rest (linesAdded (linesOf (a .printed)) k) (a .board)
 
--- what is printed after line n with c kept, where the exchanges read these bytes, perhaps none
-unfoldable pub streamed : ℕ → List ℕ → List (List ℕ) → Board → List ℕ
-streamed n c [] b = conversation (next n) (linesOf c) b .printed
-streamed n c (x ∷ xs) b =
-    thenPrinted (conversation (next n) (exchangeLines (c ++ x)) b)
-    (λ d. streamed (lastOf n (exchangeLines (c ++ x))) (exchangeRest (c ++ x)) xs d)
+-- what is printed after line n with c kept and the tally k, where the exchanges read these bytes, perhaps none
+unfoldable pub streamed : ℕ → List ℕ → List (List ℕ) → Tally → Board → List ℕ
+streamed n c [] k b = thenPrinted (conversation (next n) (linesOf c) b) k (λ t d. totalsLine (totalsAt t))
+streamed n c (x ∷ xs) k b =
+    thenPrinted (conversation (next n) (exchangeLines (c ++ x)) b) k
+    (λ t d. streamed (lastOf n (exchangeLines (c ++ x))) (exchangeRest (c ++ x)) xs t d)
 
 -- the input, whole
 abbrev pub whole : List (List ℕ) → List ℕ

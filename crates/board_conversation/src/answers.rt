@@ -1,9 +1,11 @@
-// A line answered: bank, quad-words, memory and buffer are changed where they stand, and the answer is the place of the
-// buffer after what was printed.
+// A line answered: bank, quad-words, memory, buffer and totals are changed where they stand, and the answer is the place of
+// the buffer after what was printed.
 use crate::LineResult;
 use board_lines::Frame;
+use board_lines::Tally;
 use board_lines::answers::put_ran;
 use board_lines::answers::put_refused;
+use board_lines::answers::put_unless_done;
 use board_lines::frames::parse;
 use board_lines::stores::store;
 use machine::Bank;
@@ -16,32 +18,31 @@ ghost use mathlib.Core.Path.{_≡_};
 ghost use Rattle.machine.specs.Registers.{setRegister};
 ghost use Rattle.run_spec.specs.Run.{run as runOf};
 ghost use Rattle.run_spec.specs.Boards.{entryBoard};
-ghost use Rattle.hex.specs.Output.{output};
 ghost use Rattle.board_lines.specs.Stores.{frameStore};
-ghost use Rattle.board_conversation.specs.Conversation.{unlessDone, hasRun, frameAnswer};
+ghost use Rattle.board_lines.specs.Answers.{unlessDone};
+ghost use Rattle.board_lines.specs.Printouts.{printoutOf};
+ghost use Rattle.board_conversation.specs.Conversation.{hasRun, frameAnswer};
 ghost use Rattle.board_conversation.specs.Code.{printedOn, entryIo, exitIo, Prints};
 ghost use Rattle.board_conversation.specs.Blocks.{isLongRun, lineAnswered, answeredUnless};
 
 // The refusal of a line that is no frame.
 const MALFORMED_LINE: u32 = 7;
 
-// The 82 line of a refusal; a line that was done prints nothing.
-fn put_unless_done(out: &mut [u8], at: usize, number: u32, refusal: u32) -> usize
-    ensures { λ r. ⌜ Prints r out at (unlessDone number refusal) ⌝ }
-{
-    if refusal == 0 {
-        return at;
-    }
-    put_refused(out, at, refusal, number)
-}
-
 // Frame 01.
-fn answer_set(r: &mut Bank, place: u32, value: u32, number: u32, out: &mut [u8], at: usize) -> usize
+fn answer_set(
+    r: &mut Bank,
+    place: u32,
+    value: u32,
+    number: u32,
+    out: &mut [u8],
+    tally: &mut Tally,
+    at: usize,
+) -> usize
     ensures { λ x. ⌜ (now (r .exit) ≡ setRegister (now (r .entry)) place value .bank)
-        × Prints x out at (unlessDone number (setRegister (now (r .entry)) place value .refusal)) ⌝ }
+        × Prints x out tally at (unlessDone number (setRegister (now (r .entry)) place value .refusal)) ⌝ }
 {
     let refusal = set_register(r, place, value);
-    put_unless_done(out, at, number, refusal)
+    put_unless_done(out, tally, at, number, refusal)
 }
 
 // Frame 02.
@@ -51,13 +52,14 @@ fn answer_store(
     address: u32,
     number: u32,
     out: &mut [u8],
+    tally: &mut Tally,
     at: usize,
 ) -> usize
     ensures { λ x. ⌜ (now (m .exit) ≡ frameStore (now (line .entry)) (now (m .entry)) address .memory)
-        × Prints x out at (unlessDone number (frameStore (now (line .entry)) (now (m .entry)) address .refusal)) ⌝ }
+        × Prints x out tally at (unlessDone number (frameStore (now (line .entry)) (now (m .entry)) address .refusal)) ⌝ }
 {
     let refusal = store(line, m, address);
-    put_unless_done(out, at, number, refusal)
+    put_unless_done(out, tally, at, number, refusal)
 }
 
 // Frames 03 and 04.
@@ -69,12 +71,13 @@ fn answer_run(
     budget: u32,
     level: u32,
     out: &mut [u8],
+    tally: &mut Tally,
     at: usize,
 ) -> usize
-    ensures { λ x. ⌜ exitIo m q r out x ≡ printedOn (hasRun (runOf confined budget level (entryBoard m q r))) (output (now (out .entry)) at) ⌝ }
+    ensures { λ x. ⌜ exitIo m q r out tally x ≡ printedOn (hasRun (runOf confined budget level (entryBoard m q r))) (printoutOf (now (out .entry)) (now (tally .entry)) at) ⌝ }
 {
     let e = run_lent(m, q, r, confined, budget, level);
-    put_ran(out, at, e.steps, e.stop, e.code, r[PC], r[PSW])
+    put_ran(out, tally, at, e.steps, e.stop, e.code, r[PC], r[PSW])
 }
 
 // A line by its frame.
@@ -86,16 +89,17 @@ fn answer_frame(
     q: &mut Quads,
     r: &mut Bank,
     out: &mut [u8],
+    tally: &mut Tally,
     at: usize,
 ) -> usize
-    ensures { λ x. ⌜ exitIo m q r out x ≡ printedOn (frameAnswer number (now (line .entry)) (entryBoard m q r) frame) (output (now (out .entry)) at) ⌝ }
+    ensures { λ x. ⌜ exitIo m q r out tally x ≡ printedOn (frameAnswer number (now (line .entry)) (entryBoard m q r) frame) (printoutOf (now (out .entry)) (now (tally .entry)) at) ⌝ }
 {
     match frame {
-        Frame::Set(place, value) => answer_set(r, place, value, number, out, at),
-        Frame::Store(address) => answer_store(line, m, address, number, out, at),
-        Frame::Run(budget, level) => answer_run(m, q, r, false, budget, level, out, at),
-        Frame::Confined(budget, level) => answer_run(m, q, r, true, budget, level, out, at),
-        Frame::Bad => put_refused(out, at, MALFORMED_LINE, number),
+        Frame::Set(place, value) => answer_set(r, place, value, number, out, tally, at),
+        Frame::Store(address) => answer_store(line, m, address, number, out, tally, at),
+        Frame::Run(budget, level) => answer_run(m, q, r, false, budget, level, out, tally, at),
+        Frame::Confined(budget, level) => answer_run(m, q, r, true, budget, level, out, tally, at),
+        Frame::Bad => put_refused(out, tally, at, MALFORMED_LINE, number),
     }
 }
 
@@ -123,10 +127,11 @@ pub fn answer_line(
     q: &mut Quads,
     r: &mut Bank,
     out: &mut [u8],
+    tally: &mut Tally,
     at: usize,
 ) -> LineResult
-    ensures { λ x. ⌜ lineAnswered (exitIo m q r out (x .place)) (x .waits)
-        ≡ answeredUnless begun number (now (line .entry)) (entryIo m q r out at) ⌝ }
+    ensures { λ x. ⌜ lineAnswered (exitIo m q r out tally (x .place)) (x .waits)
+        ≡ answeredUnless begun number (now (line .entry)) (entryIo m q r out tally at) ⌝ }
 {
     let frame = parse(line);
     if begun & is_long_run(frame) {
@@ -136,7 +141,7 @@ pub fn answer_line(
         };
     }
     LineResult {
-        place: answer_frame(line, frame, number, m, q, r, out, at),
+        place: answer_frame(line, frame, number, m, q, r, out, tally, at),
         waits: false,
     }
 }

@@ -1,13 +1,15 @@
 // A block of input: each line that ends in it answered, in order.
 use crate::BlockResult;
 use crate::answers::answer_line;
+use board_lines::Tally;
 use machine::Bank;
 use machine::Quads;
 ghost use mathlib.Core.Path.{_≡_};
 ghost use Prim.Native.Nat.{_+_, _≤_};
 ghost use lib.Dec.{leb};
 ghost use lib.ListN.{length, drop};
-ghost use Rattle.board_conversation.specs.Blocks.{newlineAt, blockAnswered, blockOn};
+ghost use Rattle.board_lines.specs.Texts.{newlineAt};
+ghost use Rattle.board_conversation.specs.Blocks.{blockAnswered, blockOn};
 ghost use Rattle.board_conversation.specs.Code.{entryIo, exitIo};
 
 // Whether none of eight bytes is a newline, without a branch between them: the compiler takes them at once.
@@ -67,9 +69,10 @@ pub fn answer_block(
     q: &mut Quads,
     r: &mut Bank,
     out: &mut [u8],
+    tally: &mut Tally,
 ) -> BlockResult
-    ensures { λ x. ⌜ blockAnswered (exitIo m q r out (x .place)) (x .last) (x .rest) (x .more)
-        ≡ blockOn number (now (text .entry)) (entryIo m q r out 0) ⌝ }
+    ensures { λ x. ⌜ blockAnswered (exitIo m q r out tally (x .place)) (x .last) (x .rest) (x .more)
+        ≡ blockOn number (now (text .entry)) (entryIo m q r out tally 0) ⌝ }
 {
     let mut place = 0;
     let mut last = number;
@@ -78,7 +81,7 @@ pub fn answer_block(
     let mut to = newline(text, 0);
     while to < text.len() {
         let next = std::num::wrapping_add_u32(last, 1);
-        let t = answer_line(&text[from..to], begun, next, m, q, r, out, place);
+        let t = answer_line(&text[from..to], begun, next, m, q, r, out, tally, place);
         place = t.place;
         if t.waits {
             return BlockResult {

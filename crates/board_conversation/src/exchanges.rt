@@ -2,6 +2,8 @@
 use crate::LoopState;
 use crate::answers::answer_line;
 use crate::blocks::answer_block;
+use board_lines::Tally;
+use board_lines::answers::put_totals;
 use machine::Bank;
 use machine::Quads;
 ghost use mathlib.Core.Path.{_≡_};
@@ -9,7 +11,7 @@ ghost use Prim.Native.Nat.{_-_, _<_, _≤_};
 ghost use lib.ListN.{length, take, drop};
 ghost use Rattle.board_conversation.specs.Conversation.{next};
 ghost use Rattle.board_conversation.specs.Blocks.{linesOn};
-ghost use Rattle.board_conversation.specs.Loop.{mostCarried, exchange, exchangeOf, beginning, lastLine};
+ghost use Rattle.board_conversation.specs.Loop.{mostCarried, exchange, exchangeOf, beginning, lastLine, totalsOn};
 ghost use Rattle.board_conversation.specs.Code.{entryIo, exitIo};
 
 // No frame is as long, so an unended line that is cut there stays bad.
@@ -60,13 +62,14 @@ pub fn converse(
     q: &mut Quads,
     r: &mut Bank,
     out: &mut [u8],
+    tally: &mut Tally,
 ) -> LoopState
-    ensures { λ x. ⌜ exchange (exitIo m q r out (x .place)) (x .last) (drop (x .from) (take (x .end) (now (block .exit)))) (x .more)
-        ≡ exchangeOf (s .last) (drop (s .from) (take end (now (block .entry)))) (entryIo m q r out 0) ⌝ }
+    ensures { λ x. ⌜ exchange (exitIo m q r out tally (x .place)) (x .last) (drop (x .from) (take (x .end) (now (block .exit)))) (x .more)
+        ≡ exchangeOf (s .last) (drop (s .from) (take end (now (block .entry)))) (entryIo m q r out tally 0) ⌝ }
 {
     let e = least(end, block.len());
     let f = least(s.from, e);
-    let t = answer_block(&block[f..e], s.last, m, q, r, out);
+    let t = answer_block(&block[f..e], s.last, m, q, r, out, tally);
     let from = f + t.rest;
     if t.more {
         return LoopState {
@@ -86,7 +89,7 @@ pub fn converse(
     }
 }
 
-// At the end of input: the last line may have no newline. The place of the buffer after its answer.
+// At the end of input: the last line may have no newline. The place of the buffer after its answer and the totals.
 pub fn finish(
     s: LoopState,
     block: &[u8],
@@ -94,16 +97,17 @@ pub fn finish(
     q: &mut Quads,
     r: &mut Bank,
     out: &mut [u8],
+    tally: &mut Tally,
 ) -> usize
-    ensures { λ x. ⌜ exitIo m q r out x
-        ≡ linesOn (next (s .last)) (lastLine (drop (s .from) (take (s .end) (now (block .entry))))) (entryIo m q r out 0) ⌝ }
+    ensures { λ x. ⌜ exitIo m q r out tally x
+        ≡ totalsOn (linesOn (next (s .last)) (lastLine (drop (s .from) (take (s .end) (now (block .entry))))) (entryIo m q r out tally 0)) ⌝ }
 {
     let e = least(s.end, block.len());
     let f = least(s.from, e);
     if f == e {
-        return 0;
+        return put_totals(out, tally, 0);
     }
     let number = std::num::wrapping_add_u32(s.last, 1);
-    let t = answer_line(&block[f..e], false, number, m, q, r, out, 0);
-    t.place
+    let t = answer_line(&block[f..e], false, number, m, q, r, out, tally, 0);
+    put_totals(out, tally, t.place)
 }

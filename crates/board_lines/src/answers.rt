@@ -1,12 +1,20 @@
-// The lines that are printed, into a lent buffer. Each answers the place after it; a line for which there is no room is
-// left out.
+// The lines that are printed, into a lent buffer, and counted. Each answers the place after it; a line for which there is no
+// room is left out.
+use crate::Tally;
+use crate::totals::REFUSED;
+use crate::totals::RUNS;
+use crate::totals::STEPS;
+use crate::totals::add_refusal;
+use crate::totals::add_run;
 use hex::last_digit;
 ghost use mathlib.Core.Path.{_≡_};
 ghost use Prim.Native.Nat.{_+_, _≤_};
 ghost use lib.ListN.{length};
 ghost use Rattle.hex.specs.Digits.{digits};
 ghost use Rattle.hex.specs.Output.{written, output, printed};
-ghost use Rattle.board_lines.specs.Answers.{refusedLine, ranLine};
+ghost use Rattle.board_lines.specs.Answers.{refusedLine, unlessDone, ranLine};
+ghost use Rattle.board_lines.specs.Totals.{totalsLine};
+ghost use Rattle.board_lines.specs.Printouts.{totalsAt, printoutOf, tallied};
 
 // Two digits.
 fn put_byte(out: &mut [u8], at: usize, x: u32)
@@ -29,8 +37,9 @@ fn put_word(out: &mut [u8], at: usize, x: u32)
 }
 
 // The 82 line of a refusal and a line's number.
-pub fn put_refused(out: &mut [u8], at: usize, refusal: u32, line: u32) -> usize
-    ensures { λ r. ⌜ output (now (out .exit)) r ≡ printed (refusedLine refusal line) (output (now (out .entry)) at) ⌝ }
+pub fn put_refused(out: &mut [u8], tally: &mut Tally, at: usize, refusal: u32, line: u32) -> usize
+    ensures { λ r. ⌜ printoutOf (now (out .exit)) (now (tally .exit)) r
+        ≡ tallied (refusedLine refusal line) (printoutOf (now (out .entry)) (now (tally .entry)) at) ⌝ }
 {
     if at <= out.len() {
         if 13 <= out.len() - at {
@@ -38,6 +47,7 @@ pub fn put_refused(out: &mut [u8], at: usize, refusal: u32, line: u32) -> usize
             put_byte(out, at + 2, refusal);
             put_word(out, at + 4, line);
             out[at + 12] = b'\n';
+            add_refusal(tally);
             return at + 13;
         }
         return at;
@@ -45,9 +55,27 @@ pub fn put_refused(out: &mut [u8], at: usize, refusal: u32, line: u32) -> usize
     at
 }
 
+// The 82 line of a refusal; a line that was done prints nothing.
+pub fn put_unless_done(
+    out: &mut [u8],
+    tally: &mut Tally,
+    at: usize,
+    number: u32,
+    refusal: u32,
+) -> usize
+    ensures { λ r. ⌜ printoutOf (now (out .exit)) (now (tally .exit)) r
+        ≡ tallied (unlessDone number refusal) (printoutOf (now (out .entry)) (now (tally .entry)) at) ⌝ }
+{
+    if refusal == 0 {
+        return at;
+    }
+    put_refused(out, tally, at, refusal, number)
+}
+
 // The 83 line of a run.
 pub fn put_ran(
     out: &mut [u8],
+    tally: &mut Tally,
     at: usize,
     steps: u32,
     stop: u32,
@@ -55,7 +83,8 @@ pub fn put_ran(
     pc: u32,
     psw: u32,
 ) -> usize
-    ensures { λ r. ⌜ output (now (out .exit)) r ≡ printed (ranLine steps stop code pc psw) (output (now (out .entry)) at) ⌝ }
+    ensures { λ r. ⌜ printoutOf (now (out .exit)) (now (tally .exit)) r
+        ≡ tallied (ranLine steps stop code pc psw) (printoutOf (now (out .entry)) (now (tally .entry)) at) ⌝ }
 {
     if at <= out.len() {
         if 31 <= out.len() - at {
@@ -66,7 +95,26 @@ pub fn put_ran(
             put_word(out, at + 14, pc);
             put_word(out, at + 22, psw);
             out[at + 30] = b'\n';
+            add_run(tally, steps, stop);
             return at + 31;
+        }
+        return at;
+    }
+    at
+}
+
+// The 8F line, at the end of input.
+pub fn put_totals(out: &mut [u8], tally: &Tally, at: usize) -> usize
+    ensures { λ r. ⌜ output (now (out .exit)) r ≡ printed (totalsLine (totalsAt (now (tally .entry)))) (output (now (out .entry)) at) ⌝ }
+{
+    if at <= out.len() {
+        if 27 <= out.len() - at {
+            put_byte(out, at, 0x8F);
+            put_word(out, at + 2, tally[RUNS]);
+            put_word(out, at + 10, tally[STEPS]);
+            put_word(out, at + 18, tally[REFUSED]);
+            out[at + 26] = b'\n';
+            return at + 27;
         }
         return at;
     }

@@ -1,8 +1,12 @@
-// Lines of the board program: what one says, the bytes that frame 02 stores, and the lines that are printed.
+// Lines of the board program: what one says, the bytes that frame 02 stores, the lines that are printed, and their totals.
 pub mod answers;
 pub mod digits;
 pub mod frames;
 pub mod stores;
+pub mod totals;
+
+// Runs, steps and refused lines, of all lines printed so far.
+pub type Tally = [u32; 3];
 
 // A frame by its kind; Bad is refusal 7.
 pub enum Frame {

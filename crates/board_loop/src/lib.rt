@@ -4,6 +4,7 @@ use board_conversation::LoopState;
 use board_conversation::exchanges::begin;
 use board_conversation::exchanges::converse;
 use board_conversation::exchanges::finish;
+use board_lines::totals::start_tally;
 use channels::Input;
 use channels::receive;
 use channels::send;
@@ -12,7 +13,8 @@ use machine::record::start_cache;
 
 const BLOCK: usize = 32768;
 
-// No line prints more than 13 bytes for each of its own, its newline among them.
+// No line prints more than 13 bytes for each of its own, its newline among them; the totals come where at most one line of 75
+// bytes is left.
 const ROOM: usize = 13 * BLOCK;
 
 // Reads behind what is kept, unless a line is left to be answered.
@@ -31,16 +33,26 @@ pub fn serve(memory: &mut [u8]) {
     let out: &mut [u8] = &mut out_space;
     let mut quads = start_cache();
     let mut bank = start_bank();
+    let mut tally = start_tally();
     let mut s = begin();
     // A proved loop has to end: it counts down from a number that no run uses up.
     let mut turns = u64::MAX;
     while 0 < turns {
         match more_input(s, block) {
             Input::Filled(end) => {
-                s = converse(s, end, block, memory, &mut quads, &mut bank, out);
+                s = converse(
+                    s,
+                    end,
+                    block,
+                    memory,
+                    &mut quads,
+                    &mut bank,
+                    out,
+                    &mut tally,
+                );
             }
             Input::Ended => {
-                let place = finish(s, block, memory, &mut quads, &mut bank, out);
+                let place = finish(s, block, memory, &mut quads, &mut bank, out, &mut tally);
                 send(out, place);
                 return;
             }

@@ -1,28 +1,31 @@
 -- The stops and codes of runs as the code answers them and as lines show them, from the theorem on the definition.
 -- Assumes nothing.
 use Prim.Native.Nat.{ℕ, _%_, _<_}
-use mathlib.Core.Path.{_≡_, refl, sym, ap, _∙_}
+use mathlib.Core.Path.{_≡_, refl, sym, ap, subst, _∙_}
 use mathlib.Core.Bool.{Bool, true, false, false≢true}
 use mathlib.Core.List.{List, [], _∷_, _++_}
 use native.Mathlib.Omega.{arith}
 use lib.Dec.{lit<}
 use Rattle.word.specs.Lists.{contains}
-use Rattle.word.proofs.ListLaws.{each-at, allBelow, contains-below}
+use Rattle.word.proofs.ListLaws.{Each, no-others, _also_, each-at, allBelow, contains-below}
 use Rattle.machine.specs.Registers.{pc, psw, goodBank}
 use Rattle.machine.specs.Status.{reg}
 use Rattle.run_spec.specs.Run.{Board, board, RunResult, refusal, run}
 use Rattle.hex.specs.Digits.{digitOf, digitByte, digits, numberAt}
-use Rattle.hex.specs.Output.{newline}
 use Rattle.hex.proofs.DigitLaws.{number-digits}
 use Rattle.board_lines.specs.declared.Frame.{Frame}
 use Rattle.board_lines.specs.Lines.{frameOf}
 use Rattle.board_lines.specs.Answers.{ranKind, refusedLine, ranLine, stopPlace, codePlace}
-use Rattle.board_conversation.specs.Conversation.{Answered, hasRun, frameAnswer, lineAnswer, conversation, linesOf, startBoard}
+use Rattle.board_lines.specs.Texts.{linesOf}
+use Rattle.board_lines.specs.Totals.{Totals, isRunLine, totalsOf, totalsLine}
+use Rattle.board_lines.proofs.TextLaws.{unended}
+use Rattle.board_lines.proofs.TotalsLaws.{read-stop, totals-line}
+use Rattle.board_conversation.specs.Conversation.{Answered, hasRun, frameAnswer, lineAnswer, conversation, startBoard}
+use Rattle.board_conversation.proofs.PrintedLaws.{conversation-lines}
 use Rattle.hobbit.specs.Blocks.{RunAnswer, boardIn, blocksOf}
 use Rattle.invariants.specs.StopCodes.{refusalCodes, eventCodes, codesAt, confinedCode, RunStops}
 use Rattle.invariants.proofs.StopCodes.{by-stop, on-confined-list, run-listed, listed-codes, answers-codes}
-use Rattle.isolation_board.specs.Codes.{LentStops, LentCodes, LentAllows, HobbitStops, HobbitCodes, HobbitAllows, runFrame, PrintedStops, PrintedCodes, isRunLine, printedLines, ProgramStops, ProgramCodes, ProgramAnswered}
-use Rattle.isolation_board.proofs.PrintedLaws.{unended, conversation-lines}
+use Rattle.isolation_board.specs.Codes.{LentStops, LentCodes, LentAllows, HobbitStops, HobbitCodes, HobbitAllows, runFrame, PrintedStops, PrintedCodes, printedLines, ProgramStops, ProgramCodes, ProgramAnswered}
 
 -- ---- by the contracts that are exported, which ask for nothing
 
@@ -86,7 +89,7 @@ hobbit-allows p confined budget level s =
 
 -- ---- a line: two digits have the stop and two the code, since both are below 256
 
-small-stop : (confined : Bool) (code reason : ℕ) → contains (codesAt confined reason) code ≡ true → reason < 256
+pub small-stop : (confined : Bool) (code reason : ℕ) → contains (codesAt confined reason) code ≡ true → reason < 256
 small-stop confined code =
     by-stop (λ r l. contains l code ≡ true → r < 256) confined (λ h. lit< tt) (λ h. lit< tt) (λ h. lit< tt) (λ r h. absurd (false≢true h))
 
@@ -104,14 +107,9 @@ small-code confined code =
     events true = refl
     events false = refl
 
-module _ (steps reason code counter status : ℕ) where
-  read-stop : numberAt 2 (ranLine steps reason code counter status) stopPlace ≡ reason % 256
-  read-stop =
-      number-digits 2 reason (digits 2 ranKind ++ digits 8 steps) (digits 2 code ++ digits 8 counter ++ digits 8 status ++ (newline ∷ []))
-
-  read-code : numberAt 2 (ranLine steps reason code counter status) codePlace ≡ code % 256
-  read-code =
-      number-digits 2 code (digits 2 ranKind ++ digits 8 steps ++ digits 2 reason) (digits 8 counter ++ digits 8 status ++ (newline ∷ []))
+read-code : (steps reason code counter status : ℕ) → numberAt 2 (unended (ranLine steps reason code counter status)) codePlace ≡ code % 256
+read-code steps reason code counter status =
+    number-digits 2 code (digits 2 ranKind ++ digits 8 steps ++ digits 2 reason) (digits 8 counter ++ digits 8 status)
 
 run-answer : (confined : Bool) (n : ℕ) (s : List ℕ) (b : Board) (budget level : ℕ)
     → frameAnswer n s b (runFrame confined budget level) ≡ hasRun (run confined budget level b)
@@ -163,7 +161,6 @@ refused-line : (r n : ℕ) → RunLineListed (unended (refusedLine r n))
 unfolding digitOf digitByte
 refused-line r n h = absurd (false≢true h)
 
--- both numbers stand before the newline
 ran-line : (confined : Bool) (budget level : ℕ) (b : Board) → RunLineListed (unended (hasRun (run confined budget level b) .printed))
 ran-line confined budget level b h = rw (stop-is, code-is) (on-confined-list confined (e .code) (e .stop) on-list)
   where
@@ -183,14 +180,19 @@ ran-line confined budget level b h = rw (stop-is, code-is) (on-confined-list con
         let n = read-code (e .steps) (e .stop) (e .code) (reg (e .left .cpu) pc) (reg (e .left .cpu) psw) in
         n ∙ omega (arith, small-code confined (e .code) (e .stop) on-list)
 
+totals-listed : (t : Totals) → Each RunLineListed (linesOf (totalsLine t))
+unfolding digitOf digitByte
+totals-listed t = subst (Each RunLineListed) (sym (totals-line t)) ((λ h. absurd (false≢true h)) also no-others)
+
 pub program-codes : ProgramCodes
 program-codes = listed-codes true ProgramStops on-list
   where
     on-list : (reason code : ℕ) → ProgramStops reason code → contains (codesAt true reason) code ≡ true
     on-list reason code a =
-        rw (← a .stopIs, ← a .codeIs)
-        (each-at RunLineListed (printedLines (a .input)) [] (conversation-lines RunLineListed refused-line ran-line 1 (linesOf (a .input)) startBoard) (a .place)
-        (a .within) (a .ran))
+        let t = conversation 1 (linesOf (a .input)) startBoard .printed in
+        let k = totalsOf (linesOf t) in
+        let e = conversation-lines RunLineListed refused-line ran-line 1 (linesOf (a .input)) startBoard (totalsLine k) (totals-listed k) in
+        rw (← a .stopIs, ← a .codeIs) (each-at RunLineListed (printedLines (a .input)) [] e (a .place) (a .within) (a .ran))
 
 pub program-answered : ProgramAnswered
 unfolding linesOf digitOf digitByte frameOf frameAnswer conversation run refusal goodBank

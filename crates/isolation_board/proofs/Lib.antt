@@ -4,5 +4,5 @@ pub mod Buffers
 pub mod Exchanges
 pub mod Stepping
 pub mod Witness
-pub mod PrintedLaws
 pub mod Codes
+pub mod Totals

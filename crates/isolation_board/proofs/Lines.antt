@@ -16,12 +16,13 @@ use Rattle.board_lines.specs.declared.Frame.the-variants.{Set, Store, Run, Conf
 use Rattle.board_lines.specs.Lines.{frameOf}
 use Rattle.board_lines.specs.Stores.{byteCount, bytesStored, storeResult, outsideMemory, frameStore}
 use Rattle.board_lines.specs.Answers.{ranLine}
+use Rattle.board_lines.specs.Texts.{linesOf}
 use Rattle.board_conversation.specs.Conversation.{Answered, answered, wasSet, wasStored, hasRun, frameAnswer, lineAnswer, next}
-use Rattle.board_conversation.specs.Conversation.{conversation}
+use Rattle.board_conversation.specs.Conversation.{conversation, withTotals}
 use Rattle.isolation.specs.Execution.{RunRequest, confined, Report}
 use Rattle.isolation.specs.Isolation.{Same, SameRuns, Apart}
 use Rattle.isolation.proofs.Isolation.{isolation}
-use Rattle.isolation_board.specs.Lines.{admitsFrame, admitsLines, SameLines, ConfinedLines, ConfinedConversation}
+use Rattle.isolation_board.specs.Lines.{admitsFrame, admitsLines, SameLines, ConfinedLines, ConfinedConversation, ConfinedProgram}
 
 -- ---- what is refused changes nothing
 
@@ -167,3 +168,6 @@ pub confined-conversation : ConfinedConversation
 confined-conversation H a b p n lines g =
     let x = lines-same H a b n lines a b (alike H a b p) g in
     (printed-same H a b n lines a b (x .0), x .1 .now)
+
+pub confined-program : ConfinedProgram
+confined-program H a b p input g = ap withTotals (confined-conversation H a b p 1 (linesOf input) g .0)

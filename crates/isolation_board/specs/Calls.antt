@@ -20,6 +20,7 @@ use Rattle.hobbit.specs.declared.HobbitAnswer.{HobbitAnswer}
 use Rattle.hobbit.specs.Blocks.{Blocks}
 use Rattle.hobbit.proofs.hobbit_run as hobbit-run
 use Rattle.hobbit.proofs.hobbit_run.Reads as hobbit-run-contract
+use Rattle.board_lines.specs.Printouts.{Tally}
 use Rattle.board_conversation.specs.declared.LoopState.{LoopState}
 use Rattle.board_conversation.proofs.exchanges.converse as converse
 use Rattle.board_conversation.proofs.exchanges.converse.Reads as converse-contract
@@ -77,27 +78,29 @@ HobbitRun p s confined budget level x t =
 -- ---- `board_conversation::exchanges::converse` and `finish`, of the board program's loop
 
 pub record ExchangePlaces : Type 0 where
-  pub lifetimes : Lfts 5
+  pub lifetimes : Lfts 6
   pub block : Reference
   pub memory : Reference
   pub cache : Reference
   pub bank : Reference
   pub buffer : Reference
+  pub tally : Reference
 
--- the board and the buffer that a call is lent, and that it leaves
+-- the board, the buffer and the tally that a call is lent, and that it leaves
 pub record LentBoard : Type 0 where
   pub machine : Cpu
   pub memory : Memory
   pub buffer : List ℕ
+  pub tally : Tally
 
-abbrev pub lentTo : ExchangePlaces → LentBoard → RefT Memory × (RefT Cache × (RefT Bank × (RefT (List ℕ) × Unit {0})))
+abbrev pub lentTo : ExchangePlaces → LentBoard → RefT Memory × (RefT Cache × (RefT Bank × (RefT (List ℕ) × (RefT Tally × Unit {0}))))
 lentTo p s =
     let cache = lentAt (p .cache) (s .machine .cache) in
     let bank = lentAt (p .bank) (s .machine .bank) in
-    (lentAt (p .memory) (s .memory), (cache, (bank, (lentAt (p .buffer) (s .buffer), tt))))
+    (lentAt (p .memory) (s .memory), (cache, (bank, (lentAt (p .buffer) (s .buffer), (lentAt (p .tally) (s .tally), tt)))))
 
-abbrev pub leftBy : LentBoard → Memory × (Cache × (Bank × (List ℕ × Unit {0})))
-leftBy s = (s .memory, (s .machine .cache, (s .machine .bank, (s .buffer, tt))))
+abbrev pub leftBy : LentBoard → Memory × (Cache × (Bank × (List ℕ × (Tally × Unit {0}))))
+leftBy s = (s .memory, (s .machine .cache, (s .machine .bank, (s .buffer, (s .tally, tt)))))
 
 -- an exchange of the loop: what it was given beside them, its answer, and what it left
 pub record ExchangeCall : Type 0 where
@@ -114,7 +117,7 @@ Converse s x =
     converse-contract.Asked lifetimes arguments
     → converse-contract.Learnt lifetimes arguments (x .answer) (atExit converse.ended lifetimes arguments left)
   where
-    lifetimes : Lfts 5
+    lifetimes : Lfts 6
     lifetimes = x .places .lifetimes
 
     arguments : Args converse.signature lifetimes
@@ -136,7 +139,7 @@ Finish s x =
     finish-contract.Asked lifetimes arguments
     → finish-contract.Learnt lifetimes arguments (x .place) (atExit finish.ended lifetimes arguments left)
   where
-    lifetimes : Lfts 5
+    lifetimes : Lfts 6
     lifetimes = x .places .lifetimes
 
     arguments : Args finish.signature lifetimes

@@ -6,7 +6,6 @@ use mathlib.Core.Path.{_≡_}
 use mathlib.Core.Bool.{Bool, true, false}
 use mathlib.Core.List.{List, []}
 use lib.ListN.{length, getD}
-use lib.Dec.{eqb}
 use Rattle.memory.specs.Bytes.{Memory}
 use Rattle.machine.specs.Status.{Cpu}
 use Rattle.run_spec.specs.Run.{Board, refused, levelNotUser, run}
@@ -15,8 +14,10 @@ use Rattle.hex.specs.Digits.{numberAt}
 use Rattle.board_lines.specs.declared.Frame.{Frame}
 use Rattle.board_lines.specs.declared.Frame.the-variants.{Run, Confined}
 use Rattle.board_lines.specs.Lines.{frameOf}
-use Rattle.board_lines.specs.Answers.{ranKind, stopPlace, codePlace}
-use Rattle.board_conversation.specs.Conversation.{lineAnswer, linesOf, boardProgram}
+use Rattle.board_lines.specs.Answers.{stopPlace, codePlace}
+use Rattle.board_lines.specs.Texts.{linesOf}
+use Rattle.board_lines.specs.Totals.{isRunLine}
+use Rattle.board_conversation.specs.Conversation.{lineAnswer, boardProgram}
 use Rattle.hobbit.specs.declared.HobbitAnswer.{HobbitAnswer}
 use Rattle.hobbit.specs.Blocks.{Blocks, boardIn}
 use Rattle.invariants.specs.StopCodes.{RunCodes, RunStops}
@@ -84,10 +85,6 @@ PrintedCodes = (confined : Bool) → RunCodes confined (PrintedStops confined)
 
 -- ---- all that the board program prints: whatever is put in, each 83 line has a stop and a code of frame 04's list, which has
 -- frame 03's; so no line that it ever prints has code 06
-
--- a printed line is a run's
-abbrev pub isRunLine : List ℕ → Bool
-isRunLine s = eqb (numberAt 2 s 0) ranKind
 
 abbrev pub printedLines : List ℕ → List (List ℕ)
 printedLines input = linesOf (boardProgram input)

@@ -9,6 +9,7 @@ use lib.ListN.{take, drop}
 use Rattle.memory.specs.Bytes.{Memory}
 use Rattle.machine.specs.Status.{Cpu}
 use Rattle.run_spec.specs.Run.{Board, board}
+use Rattle.board_lines.specs.Printouts.{Tally}
 use Rattle.board_conversation.specs.Conversation.{next}
 use Rattle.board_conversation.specs.Loop.{exchangeLines, lastLine}
 use Rattle.isolation.specs.Sealed.{Agree, HiddenKept}
@@ -18,7 +19,7 @@ use Rattle.isolation_board.specs.Lines.{admitsLines}
 
 -- ---- exchanges, each going on from what the last one left
 
--- between two exchanges: the board and the buffer, the number of the last line, and the bytes that are kept
+-- between two exchanges: the board, the buffer and the tally, the number of the last line, and the bytes that are kept
 pub record Between : Type 0 where
   pub lent : LentBoard
   pub last : ℕ
@@ -77,9 +78,10 @@ AdmittedEnd b = admitsLines (next (b .last)) (lastLine (b .kept)) (boardOf (b .l
 
 -- ---- what two calls left
 
--- the boards and the buffers: equal but for the hidden pages, which hold the bytes of m and of n
+-- the boards, the buffers and the tallies: equal but for the hidden pages, which hold the bytes of m and of n
 pub record SameLent (Hidden : ℕ → Type 0) (m n : Memory) (s t : LentBoard) : Type 0 where
   pub buffer : s .buffer ≡ t .buffer
+  pub tally : s .tally ≡ t .tally
   pub registers : s .machine ≡ t .machine
   pub others : Agree Hidden (s .memory) (t .memory)
   pub first-a : HiddenKept Hidden m (s .memory)
@@ -105,22 +107,22 @@ pub record SameEnd (Hidden : ℕ → Type 0) (m n : Memory) (x y : LastCall) : T
 
 -- ---- the loop
 
-abbrev pub begun : Cpu → Memory → List ℕ → ℕ → List ℕ → Between
-begun c m o i k = between (record { machine = c; memory = m; buffer = o }) i k
+abbrev pub begun : Cpu → Memory → List ℕ → Tally → ℕ → List ℕ → Between
+begun c m o t i k = between (record { machine = c; memory = m; buffer = o; tally = t }) i k
 
 -- for every two boards that are equal but for hidden pages, and every input, however it is read: the same after each exchange
 abbrev pub ConfinedExchanges : Type 1
 ConfinedExchanges =
     (Hidden : ℕ → Type 0) (a b : Cpu) (m n : Memory) → Apart Hidden (board a m) (board b n)
-    → (o : List ℕ) (i : ℕ) (k : List ℕ) (reads : List (List ℕ)) (xs ys : List ExchangeCall)
-    → AdmittedExchanges (begun a m o i k) reads xs → Exchanges (begun a m o i k) reads xs → Exchanges (begun b n o i k) reads ys
+    → (o : List ℕ) (t : Tally) (i : ℕ) (k : List ℕ) (reads : List (List ℕ)) (xs ys : List ExchangeCall)
+    → AdmittedExchanges (begun a m o t i k) reads xs → Exchanges (begun a m o t i k) reads xs → Exchanges (begun b n o t i k) reads ys
     → SameExchanges Hidden m n xs ys
 
--- and after the end of input, at which a last line may have no newline
+-- and after the end of input, at which a last line may have no newline and the totals are printed
 abbrev pub ConfinedEnd : Type 1
 ConfinedEnd =
     (Hidden : ℕ → Type 0) (a b : Cpu) (m n : Memory) → Apart Hidden (board a m) (board b n)
-    → (o : List ℕ) (i : ℕ) (k : List ℕ) (reads : List (List ℕ)) (xs ys : List ExchangeCall)
-    → AdmittedExchanges (begun a m o i k) reads xs → Exchanges (begun a m o i k) reads xs → Exchanges (begun b n o i k) reads ys
-    → (x y : LastCall) → AdmittedEnd (afterAll (begun a m o i k) xs)
-    → End (afterAll (begun a m o i k) xs) x → End (afterAll (begun b n o i k) ys) y → SameEnd Hidden m n x y
+    → (o : List ℕ) (t : Tally) (i : ℕ) (k : List ℕ) (reads : List (List ℕ)) (xs ys : List ExchangeCall)
+    → AdmittedExchanges (begun a m o t i k) reads xs → Exchanges (begun a m o t i k) reads xs → Exchanges (begun b n o t i k) reads ys
+    → (x y : LastCall) → AdmittedEnd (afterAll (begun a m o t i k) xs)
+    → End (afterAll (begun a m o t i k) xs) x → End (afterAll (begun b n o t i k) ys) y → SameEnd Hidden m n x y

@@ -1,5 +1,6 @@
 pub mod Calls
 pub mod Codes
+pub mod Totals
 pub mod Confinement
 pub mod Lines
 pub mod Buffers

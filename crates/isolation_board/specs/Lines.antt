@@ -11,7 +11,8 @@ use Rattle.board_lines.specs.declared.Frame.{Frame}
 use Rattle.board_lines.specs.declared.Frame.the-variants.{Set, Store, Run, Confined, Bad}
 use Rattle.board_lines.specs.Lines.{frameOf}
 use Rattle.board_lines.specs.Stores.{frameStore}
-use Rattle.board_conversation.specs.Conversation.{lineAnswer, next, conversation}
+use Rattle.board_lines.specs.Texts.{linesOf}
+use Rattle.board_conversation.specs.Conversation.{lineAnswer, next, conversation, programOn}
 use Rattle.isolation.specs.Isolation.{Same, Apart}
 
 -- frames that are "confined runs, refused ones included", or refused: 04; a bad line; 01, 02 and 03 with a number of the
@@ -54,3 +55,9 @@ ConfinedConversation =
     → (n : ℕ) (lines : List (List ℕ)) → admitsLines n lines a ≡ true
     → (conversation n lines a .printed ≡ conversation n lines b .printed)
     × Same Hidden a b (conversation n lines a .board) (conversation n lines b .board)
+
+-- and all that the program prints for an input, to the totals under it
+abbrev pub ConfinedProgram : Type 1
+ConfinedProgram =
+    (Hidden : ℕ → Type 0) (a b : Board) → Apart Hidden a b
+    → (input : List ℕ) → admitsLines 1 (linesOf input) a ≡ true → programOn a input ≡ programOn b input

@@ -5,8 +5,10 @@ use mathlib.Core.Path.{_≡_}
 use mathlib.Core.Bool.{true, false, _||_}
 use mathlib.Core.List.{List, [], _∷_, _++_}
 use Rattle.hex.specs.Digits.{digits}
+use Rattle.hex.specs.Output.{newline}
 use Rattle.board_lines.specs.Answers.{refusedLine, ranLine}
-use Rattle.board_conversation.specs.Conversation.{conversation}
+use Rattle.board_lines.specs.Totals.{totals, totalsLine}
+use Rattle.board_conversation.specs.Conversation.{conversation, programOn}
 use Rattle.isolation_witness.specs.Witness.{nonpagedBoard}
 use Rattle.isolation_board.specs.Lines.{admitsLines}
 
@@ -46,3 +48,16 @@ WitnessPrinted =
 abbrev pub WitnessSame : Type 0
 WitnessSame =
     (h : ℕ) → conversation 1 witnessLines (nonpagedBoard 1) .printed ≡ conversation 1 witnessLines (nonpagedBoard h) .printed
+
+-- ---- as the program's input: its totals are three runs, one step, four refused lines
+
+abbrev pub asInput : List (List ℕ) → List ℕ
+asInput [] = []
+asInput (s ∷ l) = s ++ newline ∷ asInput l
+
+abbrev pub WitnessTotals : Type 0
+WitnessTotals =
+    programOn (nonpagedBoard 1) (asInput witnessLines) ≡ conversation 1 witnessLines (nonpagedBoard 1) .printed ++ totalsLine (totals 3 1 4)
+
+abbrev pub WitnessProgram : Type 0
+WitnessProgram = (h : ℕ) → programOn (nonpagedBoard 1) (asInput witnessLines) ≡ programOn (nonpagedBoard h) (asInput witnessLines)

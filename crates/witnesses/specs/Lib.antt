@@ -10,4 +10,5 @@ pub mod Cache
 pub mod Runs
 pub mod Codes
 pub mod Lines
+pub mod Totals
 pub mod Blocks

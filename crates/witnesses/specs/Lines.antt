@@ -13,8 +13,9 @@ use Rattle.hex.specs.Output.{newline}
 use Rattle.board_lines.specs.Lines.{numbersOf, frameOf}
 use Rattle.board_lines.specs.Stores.{frameStore}
 use Rattle.board_lines.specs.Answers.{refusedLine, ranLine}
-use Rattle.board_conversation.specs.Conversation.{frameAnswer, conversation, linesOf, boardProgram}
-use Rattle.board_conversation.specs.Blocks.{newlineAt, endedLines, together, sizeOf, lastOf}
+use Rattle.board_lines.specs.Texts.{linesOf, newlineAt}
+use Rattle.board_conversation.specs.Conversation.{frameAnswer, conversation, boardProgram}
+use Rattle.board_conversation.specs.Blocks.{endedLines, together, sizeOf, lastOf}
 use Rattle.board_conversation.specs.Loop.{exchangeLines, exchangeRest}
 use Rattle.witnesses.specs.Boards.{is, all, page}
 
@@ -65,7 +66,7 @@ answers =
     ∷ is (numberAt 30 (ranLine 3 2 0x17 0x100 0x1_0400) 0) 0x83_0000_0003_0217_0000_0100_0001_0400 0x83_0000_0003_0217_0000_0100_0000_0100
     ∷ []
 
--- ---- conversations
+-- ---- conversations, 27 bytes of totals under each
 
 -- twelve digits and their newline
 abbrev pub line : ℕ → List ℕ
@@ -76,12 +77,12 @@ conversations =
     -- lines numbered from 0, or an empty line passed over
     is (numberAt 12 (boardProgram (newline ∷ [])) 0) 0x8207_0000_0001 0x8207_0000_0000
     -- a refusal that prints nothing, or a register set that prints something
-    ∷ is (length (boardProgram (line 0x0109_0000_1008))) 13 0
-    ∷ is (length (boardProgram (line 0x0109_0000_1010))) 0 13
+    ∷ is (length (boardProgram (line 0x0109_0000_1008))) 40 27
+    ∷ is (length (boardProgram (line 0x0109_0000_1010))) 27 40
     -- kind 04 run as kind 03: at kernel level it is refused with 9
     ∷ is (numberAt 30 (boardProgram (line 0x0400_0000_0107)) 0) 0x83_0000_0000_0109_0000_0000_0000_0000 0x83_0000_0001_0000_0000_0000_0000_0000
     -- a last line without a newline passed over
-    ∷ is (length (boardProgram (digits 12 0x0300_0000_0007))) 31 0
+    ∷ is (length (boardProgram (digits 12 0x0300_0000_0007))) 58 27
     ∷ []
 
 -- ---- exchanges of the program's loop
@@ -113,9 +114,10 @@ exchanges =
     ∷ is (lastOf 5 (exchangeLines (noStepRun ++ noStepRun))) 7 2
     ∷ []
 
--- document 01, "Whole case"
+-- document 01, "Whole case", and the line that request (b) puts under it
 pub whole-case : boardProgram (line 0x0106_0000_0100 ++ line 0x0109_0000_1008 ++ line 0x0300_0000_0007)
     ≡ line 0x8202_0000_0002 ++ (digits 30 0x83_0000_0000_0000_0000_0100_0000_0000 ++ (newline ∷ []))
+    ++ (digits 26 0x8F_0000_0001_0000_0000_0000_0001 ++ (newline ∷ []))
 unfolding frameOf digitOf digitByte setRegister frameAnswer conversation linesOf run refusal goodBank advance
 whole-case = refl
 

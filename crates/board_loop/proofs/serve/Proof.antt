@@ -6,11 +6,11 @@ use Rattle.board_loop.proofs.serve.Statement.{statement}
 use Rattle.board_loop.proofs.serve.Tie as tie
 
 abbrev Inv-loop : tie.InvT-loop
-Inv-loop memory₀ block₀ out₀ quads₀ bank₀ s₀ turns₀ memory block out quads bank s turns =
+Inv-loop memory₀ block₀ out₀ quads₀ bank₀ tally₀ s₀ turns₀ memory block out quads bank tally s turns =
     length memory ≡ length memory₀
 
 abbrev μ-loop : tie.MeasureT-loop
-μ-loop memory₀ block₀ out₀ quads₀ bank₀ s₀ turns₀ memory block out quads bank s turns = turns
+μ-loop memory₀ block₀ out₀ quads₀ bank₀ tally₀ s₀ turns₀ memory block out quads bank tally s turns = turns
 
 slice-aggregate-block : tie.Need-slice-aggregate-block Inv-loop μ-loop
 slice-aggregate-block c = search needs
@@ -23,6 +23,9 @@ start-cache-requires c κs = search needs
 
 start-bank-requires : tie.Need-start-bank-requires Inv-loop μ-loop
 start-bank-requires c κs = search needs
+
+start-tally-requires : tie.Need-start-tally-requires Inv-loop μ-loop
+start-tally-requires c κs = search needs
 
 begin-requires : tie.Need-begin-requires Inv-loop μ-loop
 begin-requires c κs = search needs
@@ -49,7 +52,7 @@ send-requires : tie.Need-send-requires Inv-loop μ-loop
 send-requires c κs = search needs
 
 same-length : tie.Need-same-length Inv-loop μ-loop
-same-length c = c .before .before .before .before .before .before .before .before .finish .kept .1 .1 .0 ∙ c .before .before .before .before .before .before .before .before .before .before .before .before .before .before .before .before .before .before .before .before .before .loop .inv
+same-length c = c .before .before .before .before .before .before .before .before .finish .kept .1 .1 .0 ∙ c .before .before .before .before .before .before .before .before .before .before .before .before .before .before .before .before .before .before .before .before .before .before .loop .inv
 
 returns : tie.Need-returns Inv-loop μ-loop
 returns c = search needs
@@ -67,19 +70,19 @@ send-requires-2 : tie.Need-send-requires-2 Inv-loop μ-loop
 send-requires-2 c κs = search needs
 
 same-length-3 : tie.Need-same-length-3 Inv-loop μ-loop
-same-length-3 c = c .before .before .before .before .before .before .before .before .before .before .before .converse .kept .1 .1 .1 .0 ∙ c .before .before .before .before .before .before .before .before .before .before .before .before .before .before .before .before .before .before .before .before .before .before .before .before .before .loop .inv
+same-length-3 c = c .before .before .before .before .before .before .before .before .before .before .before .converse .kept .1 .1 .1 .0 ∙ c .before .before .before .before .before .before .before .before .before .before .before .before .before .before .before .before .before .before .before .before .before .before .before .before .before .before .loop .inv
 
 returns-3 : tie.Need-returns-3 Inv-loop μ-loop
 returns-3 c = search needs
 
 sub-turns : tie.Need-sub-turns Inv-loop μ-loop
-sub-turns c = c .before .before .before .before .before .before .before .before .before .before .before .before .before .before .before .before .before .before .before .before .before .before .loop-test .taken
+sub-turns c = c .before .before .before .before .before .before .before .before .before .before .before .before .before .before .before .before .before .before .before .before .before .before .before .loop-test .taken
 
 loop-less : tie.Need-loop-less Inv-loop μ-loop
-loop-less c = omega (arith, c .before .before .before .before .before .before .before .before .before .before .before .before .before .before .before .before .before .before .before .before .before .before .loop-test .taken)
+loop-less c = omega (arith, c .before .before .before .before .before .before .before .before .before .before .before .before .before .before .before .before .before .before .before .before .before .before .before .loop-test .taken)
 
 loop-again : tie.Need-loop-again Inv-loop μ-loop
-loop-again c = c .before .before .before .before .before .before .before .before .before .converse .kept .1 .1 .1 .0 ∙ c .before .before .before .before .before .before .before .before .before .before .before .before .before .before .before .before .before .before .before .before .before .before .before .loop .inv
+loop-again c = c .before .before .before .before .before .before .before .before .before .converse .kept .1 .1 .1 .0 ∙ c .before .before .before .before .before .before .before .before .before .before .before .before .before .before .before .before .before .before .before .before .before .before .before .before .loop .inv
 
 same-length-4 : tie.Need-same-length-4 Inv-loop μ-loop
 same-length-4 c = c .before .before .before .loop .inv
@@ -97,6 +100,7 @@ serve-spec =
     slice-aggregate-out
     start-cache-requires
     start-bank-requires
+    start-tally-requires
     begin-requires
     loop-holds
     more-input-requires

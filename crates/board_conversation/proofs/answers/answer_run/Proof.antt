@@ -22,7 +22,7 @@ same-length-2 : tie.Need-same-length-2
 same-length-2 c = search needs
 
 returns : tie.Need-returns
-returns c = run-answered _ _ _ _ _ _ _ _ _ _ (c .before .before .before .before .before .before .before .before .run-lent .ensures) (c .before .before .put-ran .ensures)
+returns c = run-answered _ _ _ _ _ _ _ _ (c .before .before .before .before .before .before .before .before .before .run-lent .ensures) (c .before .before .put-ran .ensures)
 
 pub answer-run-spec : {M : Type 1} → statement M
 answer-run-spec =

@@ -13,7 +13,7 @@ same-length : tie.Need-same-length
 same-length c = search needs
 
 returns : tie.Need-returns
-returns c = set-answered _ _ _ _ _ _ _ _ (c .before .before .before .before .set-register .ensures) (c .before .before .put-unless-done .ensures)
+returns c = set-answered _ _ _ _ _ _ _ _ (c .before .before .before .before .before .set-register .ensures) (c .before .before .put-unless-done .ensures)
 
 pub answer-set-spec : {M : Type 1} → statement M
 answer-set-spec =

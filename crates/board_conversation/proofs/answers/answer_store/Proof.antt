@@ -16,7 +16,7 @@ same-length-2 : tie.Need-same-length-2
 same-length-2 c = search needs
 
 returns : tie.Need-returns
-returns c = store-answered _ _ _ _ _ _ _ _ (c .before .before .before .before .before .before .store .ensures) (c .before .before .put-unless-done .ensures)
+returns c = store-answered _ _ _ _ _ _ _ _ (c .before .before .before .before .before .before .before .store .ensures) (c .before .before .put-unless-done .ensures)
 
 pub answer-store-spec : {M : Type 1} → statement M
 answer-store-spec =

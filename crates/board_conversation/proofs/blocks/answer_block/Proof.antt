@@ -10,11 +10,11 @@ use Rattle.board_conversation.proofs.blocks.answer_block.Statement.{sta
 use Rattle.board_conversation.proofs.blocks.answer_block.Tie as tie
 
 abbrev Inv-loop : tie.InvT-loop
-Inv-loop text number m₀ q₀ r₀ out₀ place₀ last₀ from₀ begun₀ to₀ m q r out place last from begun to =
-    Answering text number (boardIoOf (cpu r₀ q₀) m₀ out₀ place₀) (boardIoOf (cpu r q) m out place) last from begun to × (length m ≡ length m₀) × (length out ≡ length out₀)
+Inv-loop text number m₀ q₀ r₀ out₀ tally₀ place₀ last₀ from₀ begun₀ to₀ m q r out tally place last from begun to =
+    Answering text number (boardIoOf (cpu r₀ q₀) m₀ out₀ tally₀ place₀) (boardIoOf (cpu r q) m out tally place) last from begun to × (length m ≡ length m₀) × (length out ≡ length out₀)
 
 abbrev μ-loop : tie.MeasureT-loop
-μ-loop text number m₀ q₀ r₀ out₀ place₀ last₀ from₀ begun₀ to₀ m q r out place last from begun to =
+μ-loop text number m₀ q₀ r₀ out₀ tally₀ place₀ last₀ from₀ begun₀ to₀ m q r out tally place last from begun to =
     length text - from
 
 newline-requires : tie.Need-newline-requires Inv-loop μ-loop
@@ -46,20 +46,20 @@ same-length-2 c = search needs
 
 returns : tie.Need-returns Inv-loop μ-loop
 returns c =
-    answering-long _ _ _ _ _ _ _ _ (c .before .before .before .before .before .before .before .before .before .before .before .before .before .loop .inv .0) (c .before .before .before .before .before .before .before .before .before .before .before .before .loop-test .taken) _ _ _ (c .before .before .before .before .before .answer-line .ensures) (c .if1 .taken)
+    answering-long _ _ _ _ _ _ _ _ (c .before .before .before .before .before .before .before .before .before .before .before .before .before .before .loop .inv .0) (c .before .before .before .before .before .before .before .before .before .before .before .before .before .loop-test .taken) _ _ _ (c .before .before .before .before .before .answer-line .ensures) (c .if1 .taken)
 
 add-from : tie.Need-add-from Inv-loop μ-loop
 add-from c = search needs
 
 newline-requires-2 : tie.Need-newline-requires-2 Inv-loop μ-loop
-newline-requires-2 c κs = omega (arith, c .before .before .before .before .before .before .before .before .before .before .before .before .loop-test .taken)
+newline-requires-2 c κs = omega (arith, c .before .before .before .before .before .before .before .before .before .before .before .before .before .loop-test .taken)
 
 loop-less : tie.Need-loop-less Inv-loop μ-loop
-loop-less c = omega (arith, c .before .before .before .before .before .before .before .before .before .before .before .before .before .before .loop .inv .0 .upto, c .before .before .before .before .before .before .before .before .before .before .before .before .before .before .loop .inv .0 .ends, c .before .before .before .before .before .before .before .before .before .before .before .before .before .loop-test .taken)
+loop-less c = omega (arith, c .before .before .before .before .before .before .before .before .before .before .before .before .before .before .before .loop .inv .0 .upto, c .before .before .before .before .before .before .before .before .before .before .before .before .before .before .before .loop .inv .0 .ends, c .before .before .before .before .before .before .before .before .before .before .before .before .before .before .loop-test .taken)
 
 loop-again : tie.Need-loop-again Inv-loop μ-loop
 loop-again c =
-    (answering-more _ _ _ _ _ _ _ _ (c .before .before .before .before .before .before .before .before .before .before .before .before .before .before .loop .inv .0) (c .before .before .before .before .before .before .before .before .before .before .before .before .before .loop-test .taken) _ _ _ (c .before .before .before .before .before .before .answer-line .ensures) _ (c .before .if1 .left) (c .before .before .before .before .before .before .before .before .before .before .before .before .wrapping-add-u32 .ensures) (c .newline2 .ensures), search needs, search needs)
+    (answering-more _ _ _ _ _ _ _ _ (c .before .before .before .before .before .before .before .before .before .before .before .before .before .before .before .loop .inv .0) (c .before .before .before .before .before .before .before .before .before .before .before .before .before .before .loop-test .taken) _ _ _ (c .before .before .before .before .before .before .answer-line .ensures) _ (c .before .if1 .left) (c .before .before .before .before .before .before .before .before .before .before .before .before .before .wrapping-add-u32 .ensures) (c .newline2 .ensures), search needs, search needs)
 
 same-length-3 : tie.Need-same-length-3 Inv-loop μ-loop
 same-length-3 c = search needs

@@ -24,7 +24,7 @@ answer-block-requires c κs = search needs
 
 add-from : tie.Need-add-from
 add-from c =
-    let w = rest-within _ _ _ _ _ (c .before .before .before .before .before .before .before .before .before .before .before .before .before .least .ensures) (c .before .before .before .before .before .before .before .before .before .before .before .before .least2 .ensures) _ _ _ _ _ _ (c .before .before .before .before .before .answer-block .ensures) in
+    let w = rest-within _ _ _ _ _ (c .before .before .before .before .before .before .before .before .before .before .before .before .before .before .least .ensures) (c .before .before .before .before .before .before .before .before .before .before .before .before .before .least2 .ensures) _ _ _ _ _ _ (c .before .before .before .before .before .answer-block .ensures) in
     omega (arith, w)
 
 same-length : tie.Need-same-length
@@ -38,11 +38,11 @@ same-length-3 c = search needs
 
 returns : tie.Need-returns
 returns c =
-    exchange-more _ _ _ _ _ (c .before .before .before .before .before .before .before .before .before .before .before .before .before .before .least .ensures) (c .before .before .before .before .before .before .before .before .before .before .before .before .before .least2 .ensures) _ _ _ _ _ _ (c .before .before .before .before .before .before .answer-block .ensures) (c .if1 .taken)
+    exchange-more _ _ _ _ _ (c .before .before .before .before .before .before .before .before .before .before .before .before .before .before .before .least .ensures) (c .before .before .before .before .before .before .before .before .before .before .before .before .before .before .least2 .ensures) _ _ _ _ _ _ (c .before .before .before .before .before .before .answer-block .ensures) (c .if1 .taken)
 
 carry-requires : tie.Need-carry-requires
 carry-requires c κs =
-    (rest-within _ _ _ _ _ (c .before .before .before .before .before .before .before .before .before .before .before .before .before .before .before .least .ensures) (c .before .before .before .before .before .before .before .before .before .before .before .before .before .before .least2 .ensures) _ _ _ _ _ _ (c .before .before .before .before .before .before .before .answer-block .ensures), search needs)
+    (rest-within _ _ _ _ _ (c .before .before .before .before .before .before .before .before .before .before .before .before .before .before .before .before .least .ensures) (c .before .before .before .before .before .before .before .before .before .before .before .before .before .before .before .least2 .ensures) _ _ _ _ _ _ (c .before .before .before .before .before .before .before .answer-block .ensures), search needs)
 
 same-length-4 : tie.Need-same-length-4
 same-length-4 c = search needs
@@ -55,7 +55,7 @@ same-length-6 c = search needs
 
 returns-2 : tie.Need-returns-2
 returns-2 c =
-    exchange-last _ _ _ _ _ (c .before .before .before .before .before .before .before .before .before .before .before .before .before .before .before .before .before .before .least .ensures) (c .before .before .before .before .before .before .before .before .before .before .before .before .before .before .before .before .before .least2 .ensures) _ _ _ _ _ _ (c .before .before .before .before .before .before .before .before .before .before .answer-block .ensures) (c .before .before .carry .result) _ (c .before .before .before .before .if1 .left) (c .before .before .carry .ensures)
+    exchange-last _ _ _ _ _ (c .before .before .before .before .before .before .before .before .before .before .before .before .before .before .before .before .before .before .before .least .ensures) (c .before .before .before .before .before .before .before .before .before .before .before .before .before .before .before .before .before .before .least2 .ensures) _ _ _ _ _ _ (c .before .before .before .before .before .before .before .before .before .before .answer-block .ensures) (c .before .before .carry .result) _ (c .before .before .before .before .if1 .left) (c .before .before .carry .ensures)
 
 pub converse-spec : {M : Type 1} → statement M
 converse-spec =

@@ -47,6 +47,9 @@ add-out c = search needs
 slice-write-out : tie.Need-slice-write-out
 slice-write-out c = search needs
 
+add-run-requires : tie.Need-add-run-requires
+add-run-requires c κs = search needs
+
 add-result : tie.Need-add-result
 add-result c = search needs
 
@@ -54,13 +57,13 @@ same-length : tie.Need-same-length
 same-length c = simp length-set (omega arith)
 
 returns : tie.Need-returns
-returns c = ran-in _ _ _ _ _ _ _ _ _ _ _ _ _ (omega arith) (c .before .before .before .before .before .before .before .before .before .before .before .before .before .before .before .before .before .before .before .before .before .before .put-byte .ensures) (c .before .before .before .before .before .before .before .before .before .before .before .before .before .before .before .before .before .before .put-word .ensures) (c .before .before .before .before .before .before .before .before .before .before .before .before .before .before .put-byte2 .ensures) (c .before .before .before .before .before .before .before .before .before .before .put-byte3 .ensures) (c .before .before .before .before .before .before .put-word2 .ensures) (c .before .before .put-word3 .ensures)
+returns c = ran-in _ _ _ _ _ _ _ _ _ _ _ _ _ _ _ (omega arith) (c .before .before .before .before .before .before .before .before .before .before .before .before .before .before .before .before .before .before .before .before .before .before .before .before .put-byte .ensures) (c .before .before .before .before .before .before .before .before .before .before .before .before .before .before .before .before .before .before .before .before .put-word .ensures) (c .before .before .before .before .before .before .before .before .before .before .before .before .before .before .before .before .put-byte2 .ensures) (c .before .before .before .before .before .before .before .before .before .before .before .before .put-byte3 .ensures) (c .before .before .before .before .before .before .before .before .put-word2 .ensures) (c .before .before .before .before .put-word3 .ensures) (c .add-run .ensures)
 
 returns-2 : tie.Need-returns-2
-returns-2 c = ran-out _ _ _ _ _ _ _ (omega arith)
+returns-2 c = ran-out _ _ _ _ _ _ _ _ (omega arith)
 
 returns-3 : tie.Need-returns-3
-returns-3 c = ran-out _ _ _ _ _ _ _ (omega arith)
+returns-3 c = ran-out _ _ _ _ _ _ _ _ (omega arith)
 
 pub put-ran-spec : {M : Type 1} → statement M
 put-ran-spec =
@@ -80,6 +83,7 @@ put-ran-spec =
     put-word-requires-3
     add-out
     slice-write-out
+    add-run-requires
     add-result
     same-length
     returns

@@ -29,6 +29,9 @@ add-out c = search needs
 slice-write-out : tie.Need-slice-write-out
 slice-write-out c = search needs
 
+add-refusal-requires : tie.Need-add-refusal-requires
+add-refusal-requires c κs = search needs
+
 add-result : tie.Need-add-result
 add-result c = search needs
 
@@ -36,13 +39,13 @@ same-length : tie.Need-same-length
 same-length c = simp length-set (omega arith)
 
 returns : tie.Need-returns
-returns c = refused-in _ _ _ _ _ _ _ (omega arith) (c .before .before .before .before .before .before .before .before .before .before .put-byte .ensures) (c .before .before .before .before .before .before .put-byte2 .ensures) (c .before .before .put-word .ensures)
+returns c = refused-in _ _ _ _ _ _ _ _ _ (omega arith) (c .before .before .before .before .before .before .before .before .before .before .before .before .put-byte .ensures) (c .before .before .before .before .before .before .before .before .put-byte2 .ensures) (c .before .before .before .before .put-word .ensures) (c .add-refusal .ensures)
 
 returns-2 : tie.Need-returns-2
-returns-2 c = refused-out _ _ _ _ (omega arith)
+returns-2 c = refused-out _ _ _ _ _ (omega arith)
 
 returns-3 : tie.Need-returns-3
-returns-3 c = refused-out _ _ _ _ (omega arith)
+returns-3 c = refused-out _ _ _ _ _ (omega arith)
 
 pub put-refused-spec : {M : Type 1} → statement M
 put-refused-spec =
@@ -56,6 +59,7 @@ put-refused-spec =
     put-word-requires
     add-out
     slice-write-out
+    add-refusal-requires
     add-result
     same-length
     returns

@@ -1,7 +1,7 @@
-use Rattle.board_conversation.proofs.AnswerLaws.{unless-done, unless-refused}
+use Rattle.board_lines.proofs.AnswerLaws.{unless-done, unless-refused}
 use borrow.Author.Needs.{needs}
-use Rattle.board_conversation.proofs.answers.put_unless_done.Statement.{statement}
-use Rattle.board_conversation.proofs.answers.put_unless_done.Tie as tie
+use Rattle.board_lines.proofs.answers.put_unless_done.Statement.{statement}
+use Rattle.board_lines.proofs.answers.put_unless_done.Tie as tie
 
 returns : tie.Need-returns
 returns c = search (needs, unless-done)
