@@ -1,7 +1,7 @@
 #!/usr/bin/env python3
 """channels.py [BOARD [PARCELS]]: what the board does where its input comes in pieces or fails, and what the board and the list of
 the one-parcel instructions do where their output is slow, full, closed or broken. BOARD is target/bin/board and PARCELS
-target/bin/parcels if none is named. Answers are those of document 01, the list is crates/parcels/stdout; a failure is one line on
+target/bin/parcels if none is named. Answers are those of document 01 and request (b), the list is crates/parcels/stdout; a failure is one line on
 standard error, after which nothing is run or written. Prints a line for each case, and ends with status 1 if one is not as it must
 be.
 """
@@ -46,6 +46,11 @@ def refused(first, last):
     return b''.join(b'8207%08X\n' % n for n in range(first, last + 1))
 
 
+def totals(runs, refused_lines):
+    """The line at the end of input; none of the runs here takes a step."""
+    return b'8F%08X%08X%08X\n' % (runs, 0, refused_lines)
+
+
 def slowly(stdin, program):
     """What comes to a slow reader of an output that does not wait."""
     reader, writer = os.pipe()
@@ -68,7 +73,7 @@ def slowly(stdin, program):
     return came
 
 
-# outputs that fail: the board's run after the refused line is not begun, and no more of the list is written
+# outputs that fail: the board's run after the refused line is not begun, no totals come, and no more of the list is written
 LINES = 20000
 for name, program, stdin in (('', board, BAD + FOREVER), ('list: ', parcels, b'')):
     with open('/dev/full', 'wb') as full:
@@ -86,7 +91,7 @@ for name, program, stdin in (('', board, BAD + FOREVER), ('list: ', parcels, b''
         os.close(writer)
 
 # an output that would have to wait: every answer comes, in order, and every line of the list
-told('a slow reader of an output that does not wait', slowly(BAD * LINES, board), refused(1, LINES))
+told('a slow reader of an output that does not wait', slowly(BAD * LINES, board), refused(1, LINES) + totals(0, LINES))
 told('list: a slow reader of an output that does not wait', slowly(b'', parcels), LIST)
 told('list: an input that is closed, which it does not read', run(b'', parcels, stdout=subprocess.PIPE, preexec_fn=lambda: os.close(0)),
      (LIST, b'', 0))
@@ -100,9 +105,14 @@ for piece in (NOTHING[:10], NOTHING[10:] + BAD[:3], BAD[3:], NOTHING[:-1]):
     time.sleep(0.2)
     os.write(writer, piece)
 os.close(writer)
-told('an input that does not wait, in pieces', p.communicate(timeout=SOON), (NOTHING_DONE + refused(2, 2) + NOTHING_DONE, b''))
+told('an input that does not wait, in pieces', p.communicate(timeout=SOON), (NOTHING_DONE + refused(2, 2) + NOTHING_DONE + totals(2, 1), b''))
 
-# an input that fails: the line that it cut is not answered
+# no input, and one whose totals are all that does not fit
+told('an empty input', run(b'', stdout=subprocess.PIPE), (totals(0, 0), b'', 0))
+with open('/dev/full', 'wb') as full:
+    told('totals that cannot be written', run(b'', stdout=full), (None, b'standard output: No space left on device\n', 0))
+
+# an input that fails: the line that it cut is not answered, and there are no totals, since input has not ended
 server = socket.create_server(('127.0.0.1', 0))
 sender = socket.create_connection(server.getsockname())
 taker, _ = server.accept()

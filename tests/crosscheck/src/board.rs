@@ -1,5 +1,5 @@
 //! The board program of document 01: frames in, lines out, on 65,536 zero bytes. HOBBIT_DUMP=1 adds the machine after runs.
-use crate::machine::{Machine, NAMES};
+use crate::machine::{Answer, Machine, NAMES};
 use std::io::{Read, Write};
 
 const SIZE: usize = 65_536;
@@ -47,53 +47,62 @@ fn dump(machine: &Machine, out: &mut impl Write) -> std::io::Result<()> {
     writeln!(out, "\n# M {hash:016X}")
 }
 
-/// One line's answer.
-fn answer(machine: &mut Machine, line: &[u8], number: u32, dumps: bool, out: &mut impl Write) -> std::io::Result<()> {
+/// What became of a line.
+enum Outcome {
+    Done,
+    Refused(u32),
+    Ran(Answer),
+}
+
+fn outcome(machine: &mut Machine, line: &[u8]) -> Outcome {
     let Some(frame) = frame_of(line) else {
-        return writeln!(out, "8207{number:08X}");
+        return Outcome::Refused(7);
     };
     match frame[0] {
-        1 => {
-            let refusal = machine.set(frame[1] as u32, word(&frame[2..6]));
-            if refusal != 0 {
-                writeln!(out, "82{refusal:02X}{number:08X}")?;
-            }
-        }
+        1 => match machine.set(frame[1] as u32, word(&frame[2..6])) {
+            0 => Outcome::Done,
+            refusal => Outcome::Refused(refusal),
+        },
         2 => {
             let at = word(&frame[1..5]) as usize;
             let bytes = &frame[5..];
             if at + bytes.len() > SIZE {
-                writeln!(out, "8208{number:08X}")?;
-            } else {
-                machine.memory.bytes[at..at + bytes.len()].copy_from_slice(bytes);
+                return Outcome::Refused(8);
             }
+            machine.memory.bytes[at..at + bytes.len()].copy_from_slice(bytes);
+            Outcome::Done
         }
-        kind => {
-            let run = machine.run(kind == 4, word(&frame[1..5]), frame[5] as u32);
-            let (pc, psw) = (machine.registers[5], machine.registers[6]);
-            writeln!(out, "83{:08X}{:02X}{:02X}{pc:08X}{psw:08X}", run.steps, run.stop, run.code)?;
-            if dumps {
-                dump(machine, out)?;
-            }
-        }
+        kind => Outcome::Ran(machine.run(kind == 4, word(&frame[1..5]), frame[5] as u32)),
     }
-    Ok(())
 }
 
 pub fn serve() -> std::io::Result<()> {
     let mut input = Vec::new();
     std::io::stdin().lock().read_to_end(&mut input)?;
-    // nothing after the last newline is no line
-    if input.last() == Some(&b'\n') {
-        input.pop();
-    } else if input.is_empty() {
-        return Ok(());
-    }
     let dumps = std::env::var("HOBBIT_DUMP").is_ok_and(|value| value == "1");
     let mut out = std::io::BufWriter::new(std::io::stdout().lock());
     let mut machine = Machine::new(vec![0; SIZE]);
-    for (k, line) in input.split(|byte| *byte == b'\n').enumerate() {
-        answer(&mut machine, line, (k as u32).wrapping_add(1), dumps, &mut out)?;
+    let [mut runs, mut steps, mut refused] = [0u64; 3];
+    // nothing after the last newline is no line
+    for (k, line) in input.split_inclusive(|byte| *byte == b'\n').enumerate() {
+        match outcome(&mut machine, line.strip_suffix(b"\n").unwrap_or(line)) {
+            Outcome::Done => (),
+            Outcome::Refused(refusal) => {
+                refused += 1;
+                writeln!(out, "82{refusal:02X}{:08X}", (k as u32).wrapping_add(1))?;
+            }
+            Outcome::Ran(run) => {
+                runs += 1;
+                steps += u64::from(run.steps);
+                refused += u64::from(run.stop == 1);
+                let (pc, psw) = (machine.registers[5], machine.registers[6]);
+                writeln!(out, "83{:08X}{:02X}{:02X}{pc:08X}{psw:08X}", run.steps, run.stop, run.code)?;
+                if dumps {
+                    dump(&machine, &mut out)?;
+                }
+            }
+        }
     }
+    writeln!(out, "8F{:08X}{:08X}{:08X}", runs as u32, steps as u32, refused as u32)?;
     out.flush()
 }
