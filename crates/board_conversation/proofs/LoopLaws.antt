@@ -17,7 +17,7 @@ use Rattle.board_lines.specs.Totals.{Totals, totalsLine}
 use Rattle.board_lines.specs.Printouts.{Tally, totalsAt, startTally, linesAdded}
 use Rattle.board_lines.proofs.TextLaws.{Plain, lines-on}
 use Rattle.board_lines.proofs.TotalsLaws.{added-totals}
-use Rattle.board_conversation.specs.Conversation.{Answered, lineAnswer, frameAnswer, printedAfter, next, conversation, startBoard, boardProgram}
+use Rattle.board_conversation.specs.Conversation.{Answered, lineAnswer, frameAnswer, printedAfter, next, conversation, programOn}
 use Rattle.board_conversation.specs.Code.{BoardIo}
 use Rattle.board_conversation.specs.Blocks.{endsLine, sizeOf, lastOf}
 use Rattle.board_conversation.specs.Loop.{exchangeLines, mostCarried, carriedOf, exchangeOf, lastLine, streamed, whole}
@@ -133,8 +133,8 @@ streamed-is (x ∷ xs) n c k b =
     ∙ sym (ap (λ (y : List (List ℕ)). conversation (next n) y b .printed) (lines-split (whole xs) false t))
     ∙ ap (λ (y : List ℕ). conversation (next n) (linesOf y) b .printed) (append-assoc c x (whole xs)))
 
--- the board program's answers and their totals, in whatever pieces its input comes
-pub stream : (xs : List (List ℕ)) → streamed 0 [] xs startTally startBoard ≡ boardProgram (whole xs)
-stream xs =
-    let t = conversation 1 (linesOf (whole xs)) startBoard .printed in
-    streamed-is xs 0 [] startTally startBoard ∙ ap (λ (k : Totals). t ++ totalsLine k) (added-totals (linesOf t))
+-- the answers and their totals, in whatever pieces the input comes
+pub stream : (xs : List (List ℕ)) (b : Board) → streamed 0 [] xs startTally b ≡ programOn b (whole xs)
+stream xs b =
+    let t = conversation 1 (linesOf (whole xs)) b .printed in
+    streamed-is xs 0 [] startTally b ∙ ap (λ (k : Totals). t ++ totalsLine k) (added-totals (linesOf t))

@@ -6,13 +6,13 @@ use mathlib.Core.List.{List, [], _∷_, _++_}
 use Prim.Native.Nat.{ℕ, zero, suc, _+_, _*_, _≤_}
 use native.Mathlib.Nat.{add-assoc, add-zero}
 use native.Mathlib.Omega.{arith}
-use lib.ListN.{length, length-append}
+use lib.ListN.{length, take, length-append}
 use lib.Dec.{eqb}
 use Rattle.word.proofs.CaseLaws.{by-test}
 use Rattle.run_spec.specs.Run.{Board}
 use Rattle.machine.specs.Registers.{setRegister}
 use Rattle.hex.specs.Output.{Output, output, written}
-use Rattle.hex.proofs.OutputLaws.{length-written, written-on, room-printed}
+use Rattle.hex.proofs.OutputLaws.{length-written, written-on, room-printed, shown}
 use Rattle.board_lines.specs.declared.Frame.{Frame}
 use Rattle.board_lines.specs.declared.Frame.the-variants.{Set, Store, Run, Confined, Bad}
 use Rattle.board_lines.specs.Lines.{isLength, frameOf}
@@ -68,7 +68,7 @@ on-output t w o p i =
     output (written-on t w o p i) ((add-assoc p (length t) (length w) ∙ ap (λ (x : ℕ). p + x) (sym (length-append t w))) i)
 
 -- the board and the buffer after a conversation, and the tally
-abbrev answeredOver : Answered → List ℕ → ℕ → Tally → BoardIo
+abbrev pub answeredOver : Answered → List ℕ → ℕ → Tally → BoardIo
 answeredOver a o p k =
     boardIo (a .board) (printout (output (written o p (a .printed)) (p + length (a .printed))) (linesAdded (linesOf (a .printed)) k))
 
@@ -104,12 +104,27 @@ room-together begun [] = omega arith
 room-together begun (s ∷ l) =
     by-test (begun && isLongRun (frameOf s)) (λ e. rw e (omega arith)) (λ e. rw e (omega (arith, room-together true l)))
 
+-- what they print is within that room
+printed-room : (l : List (List ℕ)) (n : ℕ) (b : Board) → length (conversation n l b .printed) ≤ room l
+unfolding conversation room
+printed-room [] n b = omega arith
+printed-room (s ∷ l) n b =
+    let a = lineAnswer n s b in
+    let w = conversation (next n) l (a .board) .printed in
+    omega (arith, length-append (a .printed) w, answer-short n s b, printed-room l (next n) (a .board))
+
 -- ---- an exchange of the loop
+
+exchange-room : (t : List ℕ) → room (exchangeLines t) ≤ length t * 13
+exchange-room t = omega (arith, room-ended t, room-together false (endedLines t))
+
+pub exchange-fits : (n : ℕ) (t : List ℕ) (b : Board) → length (conversation (next n) (exchangeLines t) b .printed) ≤ length t * 13
+exchange-fits n t b = omega (arith, printed-room (exchangeLines t) (next n) b, exchange-room t)
 
 pub exchange-printed : (n : ℕ) (t : List ℕ) (b : Board) (o : List ℕ) (k : Tally) → length t * 13 ≤ length o
     → exchangeOf n t (boardIo b (printout (output o 0) k)) .boardIo ≡ answeredOver (conversation (next n) (exchangeLines t) b) o 0 k
 exchange-printed n t b o k h =
-    roomy (exchangeLines t) (next n) b o 0 k (omega (arith, room-ended t, room-together false (endedLines t)))
+    roomy (exchangeLines t) (next n) b o 0 k (omega (arith, exchange-room t))
 
 -- ---- the end of input: the last line's answer, and the totals
 
@@ -122,14 +137,11 @@ unfolding room
 room-last [] = omega arith
 room-last (b ∷ c) = omega arith
 
--- what lines print is within the room that they need
-printed-room : (l : List (List ℕ)) (n : ℕ) (b : Board) → length (conversation n l b .printed) ≤ room l
-unfolding conversation room
-printed-room [] n b = omega arith
-printed-room (s ∷ l) n b =
-    let a = lineAnswer n s b in
-    let w = conversation (next n) l (a .board) .printed in
-    omega (arith, length-append (a .printed) w, answer-short n s b, printed-room l (next n) (a .board))
+pub end-fits : (n : ℕ) (c : List ℕ) (b : Board) (k : Tally)
+    → length (conversation (next n) (lastLine c) b .printed ++ totalsLine (totalsAt k)) ≤ suc (length c) * 13 + 27
+end-fits n c b k =
+    let w = conversation (next n) (lastLine c) b .printed in
+    omega (arith, length-append w (totalsLine (totalsAt k)), printed-room (lastLine c) (next n) b, room-last c)
 
 pub end-printed : (n : ℕ) (c : List ℕ) (b : Board) (o : List ℕ) (k : Tally) → suc (length c) * 13 + 27 ≤ length o
     → totalsOn (linesOn (next n) (lastLine c) (boardIo b (printout (output o 0) k)))
@@ -148,3 +160,7 @@ end-printed n c b o k h =
 
     t : Tally
     t = linesAdded (linesOf w) k
+
+-- what is written out of a buffer that was printed to from its start
+pub printed-front : (t o : List ℕ) → length t ≤ length o → take (0 + length t) (written o 0 t) ≡ t
+printed-front t o h = sym (ap (λ (x : Output). take (x .place) (x .bytes)) (room-printed t o 0 (omega arith))) ∙ shown t o h

@@ -22,10 +22,10 @@ use Rattle.isolation_board.specs.Exchanges.{begun, ConfinedExchanges, Co
 use Rattle.isolation_board.proofs.Lines.{Alike, alike}
 use Rattle.isolation_board.proofs.Buffers.{buffers-same}
 
-abbrev ioBy : LentBoard → ℕ → BoardIo
+abbrev pub ioBy : LentBoard → ℕ → BoardIo
 ioBy s p = boardIoOf (s .machine) (s .memory) (s .buffer) (s .tally) p
 
-abbrev exchangeBy : ExchangeCall → Exchange
+abbrev pub exchangeBy : ExchangeCall → Exchange
 exchangeBy x = exchange (ioBy (x .left) (x .answer .place)) (x .answer .last) (bytesKept x) (x .answer .more)
 
 -- what the exported contracts say: they ask for nothing, and an exchange and the end are those of the definitions
@@ -36,6 +36,16 @@ converse-says s x h = h tt
 pub finish-says : (s : LentBoard) (x : LastCall)
     → Finish s x → ioBy (x .left) (x .place) ≡ totalsOn (linesOn (next (x .stream .last)) (lastLine (lastBytes x)) (ioBy s 0))
 finish-says s x h = h tt
+
+-- on from what the last call left
+pub exchange-said : (b : Between) (r : List ℕ) (x : ExchangeCall) → Exchanging b r x
+    → exchangeBy x ≡ exchangeOf (b .last) (b .kept ++ r) (ioBy (b .lent) 0)
+exchange-said b r x t = converse-says (b .lent) x (t .answers) ∙ (λ i. exchangeOf (t .number i) (t .bytes i) (ioBy (b .lent) 0))
+
+pub end-said : (b : Between) (x : LastCall) → End b x
+    → ioBy (x .left) (x .place) ≡ totalsOn (linesOn (next (b .last)) (lastLine (b .kept)) (ioBy (b .lent) 0))
+end-said b x t =
+    finish-says (b .lent) x (t .answers) ∙ (λ i. totalsOn (linesOn (next (t .number i)) (lastLine (t .bytes i)) (ioBy (b .lent) 0)))
 
 module _ (H : ℕ → Type 0) (a₀ b₀ : Board) where
   -- both loops are at the same place
@@ -63,14 +73,10 @@ module _ (H : ℕ → Type 0) (a₀ b₀ : Board) where
   printouts : (b d : Between) → Level b d → printoutBy (d .lent) ≡ printoutBy (b .lent)
   printouts b d l i = printout (output (sym (l .buffer) i) 0) (sym (l .tally) i)
 
-  exchange-first : (b : Between) (r : List ℕ) (x : ExchangeCall) → Exchanging b r x
-      → exchangeBy x ≡ exchangeOf (b .last) (b .kept ++ r) (ioBy (b .lent) 0)
-  exchange-first b r x t = converse-says (b .lent) x (t .answers) ∙ (λ i. exchangeOf (t .number i) (t .bytes i) (ioBy (b .lent) 0))
-
   exchange-second : (b d : Between) (r : List ℕ) (y : ExchangeCall) → Level b d → Exchanging d r y
       → exchangeBy y ≡ exchangeOf (b .last) (b .kept ++ r) (secondIo b d)
   exchange-second b d r y l t =
-      exchange-first d r y t
+      exchange-said d r y t
       ∙ (λ i. exchangeOf (sym (l .last) i) (sym (l .kept) i ++ r) (boardIo (boardOf (d .lent)) (printouts b d l i)))
 
   module _ (b d : Between) (r : List ℕ) (x y : ExchangeCall) (l : Level b d) (f : Exchanging b r x) (g : Exchanging d r y)
@@ -87,11 +93,11 @@ module _ (H : ℕ → Type 0) (a₀ b₀ : Board) where
     of-both : {A : Type 0} (p : Exchange → A)
         → p (exchangeOf (b .last) (b .kept ++ r) (ioBy (b .lent) 0)) ≡ p (exchangeOf (b .last) (b .kept ++ r) (secondIo b d))
         → p (exchangeBy x) ≡ p (exchangeBy y)
-    of-both p h = ap p (exchange-first b r x f) ∙ h ∙ sym (ap p (exchange-second b d r y l g))
+    of-both p h = ap p (exchange-said b r x f) ∙ h ∙ sym (ap p (exchange-second b d r y l g))
 
     boards-after : Alike H a₀ b₀ (boardOf (x .left)) (boardOf (y .left))
     boards-after =
-        let e = ap (λ (z : Exchange). z .boardIo .board) (exchange-first b r x f) in
+        let e = ap (λ (z : Exchange). z .boardIo .board) (exchange-said b r x f) in
         let h = ap (λ (z : Exchange). z .boardIo .board) (exchange-second b d r y l g) in
         rw (e, h) (told .1)
 
@@ -130,15 +136,10 @@ module _ (H : ℕ → Type 0) (a₀ b₀ : Board) where
 
   -- ---- the end of input
 
-  end-first : (b : Between) (x : LastCall) → End b x
-      → ioBy (x .left) (x .place) ≡ totalsOn (linesOn (next (b .last)) (lastLine (b .kept)) (ioBy (b .lent) 0))
-  end-first b x t =
-      finish-says (b .lent) x (t .answers) ∙ (λ i. totalsOn (linesOn (next (t .number i)) (lastLine (t .bytes i)) (ioBy (b .lent) 0)))
-
   end-second : (b d : Between) (y : LastCall) → Level b d → End d y
       → ioBy (y .left) (y .place) ≡ totalsOn (linesOn (next (b .last)) (lastLine (b .kept)) (secondIo b d))
   end-second b d y l t =
-      end-first d y t
+      end-said d y t
       ∙ (λ i. totalsOn (linesOn (next (sym (l .last) i)) (lastLine (sym (l .kept) i)) (boardIo (boardOf (d .lent)) (printouts b d l i))))
 
   end-same : (b d : Between) (x y : LastCall) → Level b d → AdmittedEnd b → End b x → End d y
@@ -160,12 +161,12 @@ module _ (H : ℕ → Type 0) (a₀ b₀ : Board) where
       -- the last line's answer and the totals after it
       printed-alike : printoutOf (x .left .buffer) (x .left .tally) (x .place) ≡ printoutOf (y .left .buffer) (y .left .tally) (y .place)
       printed-alike =
-          ap (λ (z : BoardIo). z .printout) (end-first b x f) ∙ ap totalsPrinted (told .0)
+          ap (λ (z : BoardIo). z .printout) (end-said b x f) ∙ ap totalsPrinted (told .0)
           ∙ sym (ap (λ (z : BoardIo). z .printout) (end-second b d y l g))
 
       boards : Alike H a₀ b₀ (boardOf (x .left)) (boardOf (y .left))
       boards =
-          let h = ap (λ (z : BoardIo). z .board) (end-first b x f) in
+          let h = ap (λ (z : BoardIo). z .board) (end-said b x f) in
           let k = ap (λ (z : BoardIo). z .board) (end-second b d y l g) in
           rw (h, k) (told .1)
 

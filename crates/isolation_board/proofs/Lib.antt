@@ -6,3 +6,4 @@ pub mod Stepping
 pub mod Witness
 pub mod Codes
 pub mod Totals
+pub mod Program

@@ -1,7 +1,7 @@
 -- What a run's line adds to the totals, by what the run answers.
 -- Assumes nothing.
 use mathlib.Core.Path.{_≡_, ap, _∙_}
-use Prim.Native.Nat.{ℕ, _%_, _<_}
+use Prim.Native.Nat.{ℕ, _%_}
 use native.Mathlib.Omega.{arith}
 use lib.Dec.{eqb}
 use Rattle.machine.specs.Registers.{pc, psw}

@@ -1,6 +1,7 @@
 pub mod Calls
 pub mod Codes
 pub mod Totals
+pub mod Program
 pub mod Confinement
 pub mod Lines
 pub mod Buffers

@@ -76,10 +76,10 @@ totalsOfInputs =
     ∷ is (length (streamed 0 [] (line 0x0300_0000_0007 ∷ line 0x0300_0000_0007 ∷ []) startTally startBoard)) 89 116
     ∷ []
 
-pub totals-of-lines-checked : T (all totalsOfLines)
+pub totalsOfLines-checked : T (all totalsOfLines)
 unfolding totalsOfLines digitOf digitByte linesOf
-totals-of-lines-checked = tt
+totalsOfLines-checked = tt
 
-pub totals-of-inputs-checked : T (all totalsOfInputs)
+pub totalsOfInputs-checked : T (all totalsOfInputs)
 unfolding totalsOfInputs frameOf digitOf digitByte setRegister frameAnswer conversation linesOf newlineAt run refusal goodBank advance streamed linesAdded endedLines together sizeOf lastOf
-totals-of-inputs-checked = tt
+totalsOfInputs-checked = tt
