@@ -5,7 +5,7 @@ target/bin/parcels if none is named. Answers are those of document 01 and reques
 standard error, after which nothing is run or written. Prints a line for each case, and ends with status 1 if one is not as it must
 be.
 """
-import fcntl, os, signal, socket, struct, subprocess, sys, threading, time
+import fcntl, os, resource, signal, socket, struct, subprocess, sys, tempfile, threading, time
 
 here = os.path.dirname(os.path.abspath(__file__))
 named = dict(enumerate(sys.argv))
@@ -89,6 +89,15 @@ for name, program, stdin in (('', board, BAD + FOREVER), ('list: ', parcels, b''
         told(name + 'a killed reader, its signal %s' % ('ignored' if ignored else 'not ignored'),
              run(stdin, program, stdout=writer, restore_signals=not ignored), wanted)
         os.close(writer)
+
+# an output that fails after some answers: no totals under them
+LIMIT = 100000
+with tempfile.TemporaryFile() as file:
+    said = run(BAD * LINES, stdout=file, restore_signals=False,
+               preexec_fn=lambda: resource.setrlimit(resource.RLIMIT_FSIZE, (LIMIT, LIMIT)))
+    file.seek(0)
+    told('an output that fails after some answers', (file.read(), said),
+         (refused(1, LINES)[:LIMIT], (None, b'standard output: File too large\n', 0)))
 
 # an output that would have to wait: every answer comes, in order, and every line of the list
 told('a slow reader of an output that does not wait', slowly(BAD * LINES, board), refused(1, LINES) + totals(0, LINES))
