@@ -104,7 +104,7 @@ end-lines n t d h =
     rw h (last-line (take mostCarried rest) (plain-take mostCarried rest (ltb-false (newlineAt rest) (length rest) h)))
 
 -- a text and the totals after it, after the tally k
-abbrev ending : Tally → List ℕ → List ℕ
+abbrev pub ending : Tally → List ℕ → List ℕ
 ending k t = t ++ totalsLine (totalsAt (linesAdded (linesOf t) k))
 
 ending-after : (n : ℕ) (l : List (List ℕ)) (b : Board) (k : Tally) (w : List ℕ)

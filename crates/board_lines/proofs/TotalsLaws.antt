@@ -16,7 +16,7 @@ use Rattle.hex.specs.Output.{Output, newline, output, written, printed}
 use Rattle.hex.proofs.DigitLaws.{all-append, all-digits, number-digits}
 use Rattle.hex.proofs.OutputLaws.{room-printed}
 use Rattle.board_lines.specs.Texts.{linesOf}
-use Rattle.board_lines.specs.Answers.{refusedKind, ranKind, refusedLine, ranLine, stepsPlace, stopPlace, refusedStop}
+use Rattle.board_lines.specs.Answers.{refusedKind, ranKind, refusedLine, ranLine, stepsPlace, stopPlace, codePlace, refusedStop}
 use Rattle.board_lines.specs.Totals.{Totals, totals, isRunLine, isRefused, runsIn, stepsIn, refusedIn, sumOver, totalsOf, totalsKind, totalsLine}
 use Rattle.board_lines.specs.Printouts.{Tally, totalsAt, startTally, addedAt, addedIf, lineAdded, linesAdded, refusalAdded, runAdded, Printout, printout, tallied}
 use Rattle.board_lines.proofs.TextLaws.{unended, LineText, one-line, digits-line}
@@ -27,25 +27,25 @@ more-digits : (n x : ℕ) (t : List ℕ) → allDigits t ≡ true → allDigits 
 more-digits n x t h = all-append (digits n x) t ∙ (λ i. all-digits n x i && h i)
 
 module _ (kind : ℕ) (rest : List ℕ) (h : allDigits rest ≡ true) where
-  text : (P : List ℕ → Type 0) → P (digits 2 kind ++ rest) → LineText P ((digits 2 kind ++ rest) ++ newline ∷ [])
-  text P p = one-line (digitByte (kind / 16 ^ 1 % 16)) (digits 1 kind ++ rest) (more-digits 2 kind rest h) p
+  kind-text : (P : List ℕ → Type 0) → P (digits 2 kind ++ rest) → LineText P ((digits 2 kind ++ rest) ++ newline ∷ [])
+  kind-text P p = one-line (digitByte (kind / 16 ^ 1 % 16)) (digits 1 kind ++ rest) (more-digits 2 kind rest h) p
 
-  line : linesOf ((digits 2 kind ++ rest) ++ newline ∷ []) ≡ (digits 2 kind ++ rest) ∷ []
-  line = digits-line (digitByte (kind / 16 ^ 1 % 16)) (digits 1 kind ++ rest) (more-digits 2 kind rest h)
+  kind-lines : linesOf ((digits 2 kind ++ rest) ++ newline ∷ []) ≡ (digits 2 kind ++ rest) ∷ []
+  kind-lines = digits-line (digitByte (kind / 16 ^ 1 % 16)) (digits 1 kind ++ rest) (more-digits 2 kind rest h)
 
 module _ (r n : ℕ) where
   refused-digits : allDigits (digits 2 r ++ digits 8 n) ≡ true
   refused-digits = more-digits 2 r (digits 8 n) (all-digits 8 n)
 
   pub refused-text : (P : List ℕ → Type 0) → P (unended (refusedLine r n)) → LineText P (refusedLine r n)
-  refused-text = text refusedKind (digits 2 r ++ digits 8 n) refused-digits
+  refused-text = kind-text refusedKind (digits 2 r ++ digits 8 n) refused-digits
 
-  pub refused-line : linesOf (refusedLine r n) ≡ unended (refusedLine r n) ∷ []
-  refused-line = line refusedKind (digits 2 r ++ digits 8 n) refused-digits
+  pub refused-lines : linesOf (refusedLine r n) ≡ unended (refusedLine r n) ∷ []
+  refused-lines = kind-lines refusedKind (digits 2 r ++ digits 8 n) refused-digits
 
   pub refused-added : (k : Tally) → linesAdded (linesOf (refusedLine r n)) k ≡ refusalAdded k
   unfolding linesAdded digitOf digitByte
-  refused-added k = ap (λ (l : List (List ℕ)). linesAdded l k) refused-line
+  refused-added k = ap (λ (l : List (List ℕ)). linesAdded l k) refused-lines
 
 module _ (steps stop code counter status : ℕ) where
   abbrev ran : List ℕ
@@ -61,10 +61,10 @@ module _ (steps stop code counter status : ℕ) where
       (more-digits 2 code (digits 8 counter ++ digits 8 status) (more-digits 8 counter (digits 8 status) (all-digits 8 status))))
 
   pub ran-text : (P : List ℕ → Type 0) → P (unended ran) → LineText P ran
-  ran-text = text ranKind (digits 8 steps ++ after-steps) ran-digits
+  ran-text = kind-text ranKind (digits 8 steps ++ after-steps) ran-digits
 
-  pub ran-line : linesOf ran ≡ unended ran ∷ []
-  ran-line = line ranKind (digits 8 steps ++ after-steps) ran-digits
+  pub ran-lines : linesOf ran ≡ unended ran ∷ []
+  ran-lines = kind-lines ranKind (digits 8 steps ++ after-steps) ran-digits
 
   -- the numbers that stand in it
   pub read-steps : numberAt 8 (unended ran) stepsPlace ≡ steps % 2 ^ 32
@@ -73,17 +73,20 @@ module _ (steps stop code counter status : ℕ) where
   pub read-stop : numberAt 2 (unended ran) stopPlace ≡ stop % 256
   read-stop = number-digits 2 stop (digits 2 ranKind ++ digits 8 steps) (digits 2 code ++ digits 8 counter ++ digits 8 status)
 
+  pub read-code : numberAt 2 (unended ran) codePlace ≡ code % 256
+  read-code = number-digits 2 code (digits 2 ranKind ++ digits 8 steps ++ digits 2 stop) (digits 8 counter ++ digits 8 status)
+
   pub ran-added : (k : Tally) → linesAdded (linesOf ran) k ≡ runAdded steps stop k
   unfolding linesAdded digitOf digitByte
   ran-added k =
-      ap (λ (l : List (List ℕ)). linesAdded l k) ran-line
+      ap (λ (l : List (List ℕ)). linesAdded l k) ran-lines
       ∙ (λ i. addedIf (eqb (read-stop i) refusedStop) 2 1 (addedAt 1 (read-steps i) (addedAt 0 1 k)))
       ∙ ap (λ (x : ℕ). addedIf (eqb (stop % 256) refusedStop) 2 1 (set (addedAt 0 1 k) 1 x)) (add-mod-mod (getD (addedAt 0 1 k) 1 0) steps (2 ^ 32))
 
 -- the 8F line is neither kind of line
-pub totals-line : (t : Totals) → linesOf (totalsLine t) ≡ unended (totalsLine t) ∷ []
-totals-line t =
-    line totalsKind (digits 8 (t .runs) ++ digits 8 (t .steps) ++ digits 8 (t .refused))
+pub totals-lines : (t : Totals) → linesOf (totalsLine t) ≡ unended (totalsLine t) ∷ []
+totals-lines t =
+    kind-lines totalsKind (digits 8 (t .runs) ++ digits 8 (t .steps) ++ digits 8 (t .refused))
     (more-digits 8 (t .runs) (digits 8 (t .steps) ++ digits 8 (t .refused)) (more-digits 8 (t .steps) (digits 8 (t .refused)) (all-digits 8 (t .refused))))
 
 -- ---- kept by the code

@@ -16,6 +16,19 @@ ghost use Rattle.board_lines.specs.Answers.{refusedLine, unlessDone, ran
 ghost use Rattle.board_lines.specs.Totals.{totalsLine};
 ghost use Rattle.board_lines.specs.Printouts.{totalsAt, printoutOf, tallied};
 
+// The kinds of lines, and their bytes with the newline.
+const REFUSED_KIND: u32 = 0x82;
+
+const REFUSED_SIZE: usize = 13;
+
+const RAN_KIND: u32 = 0x83;
+
+const RAN_SIZE: usize = 31;
+
+const TOTALS_KIND: u32 = 0x8F;
+
+const TOTALS_SIZE: usize = 27;
+
 // Two digits.
 fn put_byte(out: &mut [u8], at: usize, x: u32)
     requires { ⌜ at + 2 ≤ length (now out) ⌝ }
@@ -42,13 +55,13 @@ pub fn put_refused(out: &mut [u8], tally: &mut Tally, at: usize, refusal: u32, l
         ≡ tallied (refusedLine refusal line) (printoutOf (now (out .entry)) (now (tally .entry)) at) ⌝ }
 {
     if at <= out.len() {
-        if 13 <= out.len() - at {
-            put_byte(out, at, 0x82);
+        if REFUSED_SIZE <= out.len() - at {
+            put_byte(out, at, REFUSED_KIND);
             put_byte(out, at + 2, refusal);
             put_word(out, at + 4, line);
             out[at + 12] = b'\n';
             add_refusal(tally);
-            return at + 13;
+            return at + REFUSED_SIZE;
         }
         return at;
     }
@@ -87,8 +100,8 @@ pub fn put_ran(
         ≡ tallied (ranLine steps stop code pc psw) (printoutOf (now (out .entry)) (now (tally .entry)) at) ⌝ }
 {
     if at <= out.len() {
-        if 31 <= out.len() - at {
-            put_byte(out, at, 0x83);
+        if RAN_SIZE <= out.len() - at {
+            put_byte(out, at, RAN_KIND);
             put_word(out, at + 2, steps);
             put_byte(out, at + 10, stop);
             put_byte(out, at + 12, code);
@@ -96,7 +109,7 @@ pub fn put_ran(
             put_word(out, at + 22, psw);
             out[at + 30] = b'\n';
             add_run(tally, steps, stop);
-            return at + 31;
+            return at + RAN_SIZE;
         }
         return at;
     }
@@ -108,13 +121,13 @@ pub fn put_totals(out: &mut [u8], tally: &Tally, at: usize) -> usize
     ensures { λ r. ⌜ output (now (out .exit)) r ≡ printed (totalsLine (totalsAt (now (tally .entry)))) (output (now (out .entry)) at) ⌝ }
 {
     if at <= out.len() {
-        if 27 <= out.len() - at {
-            put_byte(out, at, 0x8F);
+        if TOTALS_SIZE <= out.len() - at {
+            put_byte(out, at, TOTALS_KIND);
             put_word(out, at + 2, tally[RUNS]);
             put_word(out, at + 10, tally[STEPS]);
             put_word(out, at + 18, tally[REFUSED]);
             out[at + 26] = b'\n';
-            return at + 27;
+            return at + TOTALS_SIZE;
         }
         return at;
     }

@@ -1,9 +1,9 @@
 -- The stops and codes of runs as the code answers them and as lines show them, from the theorem on the definition.
 -- Assumes nothing.
-use Prim.Native.Nat.{ℕ, _%_, _<_}
+use Prim.Native.Nat.{ℕ, _<_}
 use mathlib.Core.Path.{_≡_, refl, sym, ap, subst, _∙_}
 use mathlib.Core.Bool.{Bool, true, false, false≢true}
-use mathlib.Core.List.{List, [], _∷_, _++_}
+use mathlib.Core.List.{List, [], _∷_}
 use native.Mathlib.Omega.{arith}
 use lib.Dec.{lit<}
 use Rattle.word.specs.Lists.{contains}
@@ -12,14 +12,13 @@ use Rattle.machine.specs.Registers.{pc, psw, goodBank}
 use Rattle.machine.specs.Status.{reg}
 use Rattle.run_spec.specs.Run.{Board, board, RunResult, refusal, run}
 use Rattle.hex.specs.Digits.{digitOf, digitByte, digits, numberAt}
-use Rattle.hex.proofs.DigitLaws.{number-digits}
 use Rattle.board_lines.specs.declared.Frame.{Frame}
 use Rattle.board_lines.specs.Lines.{frameOf}
-use Rattle.board_lines.specs.Answers.{ranKind, refusedLine, ranLine, stopPlace, codePlace}
+use Rattle.board_lines.specs.Answers.{refusedLine, stopPlace, codePlace}
 use Rattle.board_lines.specs.Texts.{linesOf}
 use Rattle.board_lines.specs.Totals.{Totals, isRunLine, totalsOf, totalsLine}
 use Rattle.board_lines.proofs.TextLaws.{unended}
-use Rattle.board_lines.proofs.TotalsLaws.{read-stop, totals-line}
+use Rattle.board_lines.proofs.TotalsLaws.{read-stop, read-code, totals-lines}
 use Rattle.board_conversation.specs.Conversation.{Answered, hasRun, frameAnswer, lineAnswer, conversation, startBoard}
 use Rattle.board_conversation.proofs.PrintedLaws.{conversation-lines}
 use Rattle.hobbit.specs.Blocks.{RunAnswer, boardIn, blocksOf}
@@ -107,10 +106,6 @@ small-code confined code =
     events true = refl
     events false = refl
 
-read-code : (steps reason code counter status : ℕ) → numberAt 2 (unended (ranLine steps reason code counter status)) codePlace ≡ code % 256
-read-code steps reason code counter status =
-    number-digits 2 code (digits 2 ranKind ++ digits 8 steps ++ digits 2 reason) (digits 8 counter ++ digits 8 status)
-
 run-answer : (confined : Bool) (n : ℕ) (s : List ℕ) (b : Board) (budget level : ℕ)
     → frameAnswer n s b (runFrame confined budget level) ≡ hasRun (run confined budget level b)
 unfolding frameAnswer
@@ -182,7 +177,7 @@ ran-line confined budget level b h = rw (stop-is, code-is) (on-confined-list con
 
 totals-listed : (t : Totals) → Each RunLineListed (linesOf (totalsLine t))
 unfolding digitOf digitByte
-totals-listed t = subst (Each RunLineListed) (sym (totals-line t)) ((λ h. absurd (false≢true h)) also no-others)
+totals-listed t = subst (Each RunLineListed) (sym (totals-lines t)) ((λ h. absurd (false≢true h)) also no-others)
 
 pub program-codes : ProgramCodes
 program-codes = listed-codes true ProgramStops on-list

@@ -3,26 +3,25 @@
 use Prim.Native.Nat.{ℕ, suc, _+_, _*_, _≤_}
 use mathlib.Core.Path.{_≡_, refl, sym, ap, _∙_}
 use mathlib.Core.Bool.{false}
-use mathlib.Core.List.{List, [], _∷_, _++_, append-assoc}
+use mathlib.Core.List.{List, [], _∷_, _++_, append-assoc, append-nil}
 use native.Mathlib.Omega.{arith}
 use lib.ListN.{length, take, drop, length-take}
-use lib.Seq.{take-length}
+use lib.Seq.{take-length, take-append-seam}
 use Rattle.run_spec.specs.Run.{board}
 use Rattle.hex.specs.Output.{output}
 use Rattle.hex.proofs.OutputLaws.{length-written}
 use Rattle.board_lines.specs.Texts.{linesOf}
-use Rattle.board_lines.specs.Totals.{totalsLine}
-use Rattle.board_lines.specs.Printouts.{totalsAt, startTally, linesAdded}
+use Rattle.board_lines.specs.Printouts.{startTally, linesAdded}
 use Rattle.board_conversation.specs.declared.LoopState.{LoopState}
-use Rattle.board_conversation.specs.Conversation.{Answered, next, conversation}
+use Rattle.board_conversation.specs.Conversation.{Answered, next, conversation, programOn}
 use Rattle.board_conversation.specs.Code.{BoardIo, boardIoOf}
 use Rattle.board_conversation.specs.Blocks.{sizeOf, linesOn}
-use Rattle.board_conversation.specs.Loop.{exchangeLines, mostCarried, Exchange, exchange, exchangeOf, beginning, lastLine, totalsOn, streamed}
-use Rattle.board_conversation.proofs.LoopLaws.{end-lines, stream}
+use Rattle.board_conversation.specs.Loop.{exchangeLines, mostCarried, Exchange, exchange, exchangeOf, beginning, lastLine, totalsOn, streamed, whole}
+use Rattle.board_conversation.proofs.LoopLaws.{end-lines, ending, stream}
 use Rattle.board_conversation.proofs.RoomLaws.{answeredOver, exchange-fits, exchange-printed, end-fits, end-printed, printed-front}
 use Rattle.isolation_board.specs.Calls.{LentBoard, ExchangeCall, LastCall}
 use Rattle.isolation_board.specs.Exchanges.{Between, boardOf, bytesKept, afterExchange, Exchanging, Exchanges, afterAll, End, begun}
-use Rattle.isolation_board.specs.Program.{handed, handedBy, handedLast, RoomFor, RoomAtEnd, NoMore, ProgramPrints, ProgramServes}
+use Rattle.isolation_board.specs.Program.{handed, handedBy, handedLast, RoomFor, RoomAtEnd, NoMore, ProgramBegins, ProgramPrints, ProgramServes}
 use Rattle.isolation_board.proofs.Exchanges.{ioBy, exchangeBy, exchange-said, end-said}
 
 -- what a write is handed of a board's buffer
@@ -76,15 +75,12 @@ unfolding front streamed
 end-handed b y f h e =
     ap front (end-said b y f ∙ end-printed (b .last) (b .kept) (boardOf (b .lent)) (b .lent .buffer) (b .lent .tally) h)
     ∙ printed-front _ (b .lent .buffer) (omega (arith, h, end-fits (b .last) (b .kept) (boardOf (b .lent)) (linesAdded (linesOf (a .printed)) (b .lent .tally))))
-    ∙ ap (λ (l : List (List ℕ)). ending (conversation (next (b .last)) l (boardOf (b .lent)))) (sym e)
+    ∙ ap (λ (l : List (List ℕ)). ending (b .lent .tally) (conversation (next (b .last)) l (boardOf (b .lent)) .printed)) (sym e)
   where
     a : Answered
     a = conversation (next (b .last)) (lastLine (b .kept)) (boardOf (b .lent))
 
-    ending : Answered → List ℕ
-    ending z = z .printed ++ totalsLine (totalsAt (linesAdded (linesOf (z .printed)) (b .lent .tally)))
-
--- ---- all of them
+-- ---- all exchanges
 
 settled : (b : Between) (r : List ℕ) (rs : List (List ℕ)) (x : ExchangeCall) (xs : List ExchangeCall)
     → Exchanges b (r ∷ rs) (x ∷ xs) → RoomFor b (r ∷ rs) (x ∷ xs) → NoMore (x ∷ xs)
@@ -103,6 +99,33 @@ all-handed b (r ∷ rs) [] y f h e g k = absurd f
 all-handed b (r ∷ rs) (x ∷ xs) y f h e g k =
     append-assoc (handed x) (handedBy xs) (handedLast y)
     ∙ goes-on b r x (f .0) (h .0) rs (handedBy xs ++ handedLast y) (all-handed (afterExchange x) rs xs y (f .1) (h .1) e g k)
+
+-- ---- before the end
+
+whole-after : (rs : List (List ℕ)) (u : List ℕ) → whole (rs ++ (u ∷ [])) ≡ whole rs ++ u
+whole-after [] u = append-nil u
+whole-after (r ∷ rs) u = ap (λ (t : List ℕ). r ++ t) (whole-after rs u) ∙ sym (append-assoc r (whole rs) u)
+
+begun-handed : (b : Between) (rs : List (List ℕ)) (xs : List ExchangeCall) (u : List ℕ) → Exchanges b rs xs → RoomFor b rs xs
+    → handedBy xs
+    ++ streamed (afterAll b xs .last) (afterAll b xs .kept) (u ∷ []) (afterAll b xs .lent .tally) (boardOf (afterAll b xs .lent))
+    ≡ streamed (b .last) (b .kept) (rs ++ (u ∷ [])) (b .lent .tally) (boardOf (b .lent))
+begun-handed b [] [] u f h = refl
+begun-handed b [] (x ∷ xs) u f h = absurd f
+begun-handed b (r ∷ rs) [] u f h = absurd f
+begun-handed b (r ∷ rs) (x ∷ xs) u f h =
+    append-assoc (handed x) (handedBy xs) _
+    ∙ goes-on b r x (f .0) (h .0) (rs ++ (u ∷ [])) _ (begun-handed (afterExchange x) rs xs u (f .1) (h .1))
+
+pub program-begins : ProgramBegins
+program-begins c m o reads calls f h u =
+    ap (take (length (handedBy calls)))
+    (ap (programOn (board c m)) (sym (whole-after reads u))
+    ∙ sym (stream (reads ++ (u ∷ [])) (board c m))
+    ∙ sym (begun-handed (begun c m o startTally 0 []) reads calls u f h))
+    ∙ take-append-seam (handedBy calls) _
+
+-- ---- to the end
 
 pub program-prints : ProgramPrints
 unfolding linesOf
@@ -125,7 +148,7 @@ pub program-serves : ProgramServes
 program-serves p c m o input e h g =
     record {
       calls = call ∷ [];
-      last = ending;
+      last = last-call;
       exchanges = (record { number = refl; bytes = take-length input; answers = λ _. exchange-allowed }, tt);
       room = (h, tt);
       noMore = e;
@@ -165,8 +188,8 @@ program-serves p c m o input e h g =
         totalsOn
         (linesOn (next (after .last)) (lastLine (take (length (after .bytes)) (after .bytes))) (ioBy (lentBy (after .boardIo)) 0))
 
-    ending : LastCall
-    ending = record { places = p; stream = state; block = after .bytes; place = over .printout .output .place; left = lentBy over }
+    last-call : LastCall
+    last-call = record { places = p; stream = state; block = after .bytes; place = over .printout .output .place; left = lentBy over }
 
     room-left : suc (length (take (length (after .bytes)) (after .bytes))) * 13 + 27 ≤ length (after .boardIo .printout .output .bytes)
     room-left =

@@ -30,15 +30,23 @@ handedLast x = take (x .place) (x .left .buffer)
 
 -- ---- how the loop calls them
 
--- the buffer has thirteen bytes for each that an exchange is given, as the program's has for each of its block
+-- no line prints more bytes for each of its own, its newline counted
+abbrev pub mostPrinted : ℕ
+mostPrinted = 13
+
+-- the bytes of the totals' line
+abbrev pub totalsSize : ℕ
+totalsSize = 27
+
+-- the buffer has room for what an exchange is given, as the program's has for its whole block
 abbrev pub RoomFor : Between → List (List ℕ) → List ExchangeCall → Type 0
 RoomFor b [] xs = Unit {0}
 RoomFor b (r ∷ rs) [] = Unit {0}
-RoomFor b (r ∷ rs) (x ∷ xs) = (length (b .kept ++ r) * 13 ≤ length (b .lent .buffer)) × RoomFor (afterExchange x) rs xs
+RoomFor b (r ∷ rs) (x ∷ xs) = (length (b .kept ++ r) * mostPrinted ≤ length (b .lent .buffer)) × RoomFor (afterExchange x) rs xs
 
--- at the end, for what is left, its newline counted, and for the 27 bytes of the totals
+-- at the end, for what is left and for the totals
 abbrev pub RoomAtEnd : Between → Type 0
-RoomAtEnd b = suc (length (b .kept)) * 13 + 27 ≤ length (b .lent .buffer)
+RoomAtEnd b = suc (length (b .kept)) * mostPrinted + totalsSize ≤ length (b .lent .buffer)
 
 -- the end is looked for only where no line that ends is left
 abbrev pub NoMore : List ExchangeCall → Type 0
@@ -63,9 +71,16 @@ ProgramPrints =
     (c : Cpu) (m : Memory) (o : List ℕ) (reads : List (List ℕ)) (s : Served c m o reads)
     → handedBy (s .calls) ++ handedLast (s .last) ≡ programOn (board c m) (whole reads)
 
+-- and before the end, as where a read or a write fails: what was handed is how the text begins, whatever would have followed
+abbrev pub ProgramBegins : Type 0
+ProgramBegins =
+    (c : Cpu) (m : Memory) (o : List ℕ) (reads : List (List ℕ)) (calls : List ExchangeCall)
+    → Exchanges (begun c m o startTally 0 []) reads calls → RoomFor (begun c m o startTally 0 []) reads calls
+    → (more : List ℕ) → take (length (handedBy calls)) (programOn (board c m) (whole reads ++ more)) ≡ handedBy calls
+
 -- there are such calls: the contracts allow them for every input that is read at once and leaves no line that ends, where the
 -- buffer has the room
 abbrev pub ProgramServes : Type 0
 ProgramServes =
     ExchangePlaces → (c : Cpu) (m : Memory) (o input : List ℕ) → endsLine (drop (sizeOf (exchangeLines input)) input) ≡ false
-    → length input * 13 ≤ length o → suc mostCarried * 13 + 27 ≤ length o → Served c m o (input ∷ [])
+    → length input * mostPrinted ≤ length o → suc mostCarried * mostPrinted + totalsSize ≤ length o → Served c m o (input ∷ [])
