@@ -159,7 +159,7 @@ pub fn fetch(
 
 // Whether stores at a are valid: nothing is recorded, and a bad one is a read fault.
 pub fn probe(m: &[u8], stb: u32, user: bool, translated: bool, a: u32) -> u64
-    ensures { AnswersReadOnly result m [] (probes (regime_for stb user translated) a) }
+    ensures { AnswersReadOnly result m.now [] (probes (regime_for stb user translated) a) }
 {
     if translated {
         let x = translate(m, user, stb, AccessKind::Write, a);

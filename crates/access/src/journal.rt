@@ -1,6 +1,6 @@
 // The journal of a step, in one lent array: the number of entries, then each as its place times 2^32 and the word of before.
 ghost use Rattle.std.specs.Prelude.{◌≡◌, min, set};
-ghost use Rattle.access_spec.specs.Journal.{journaled, count, room, note as note_of, entry_note, restored, undo as undoOf};
+ghost use Rattle.access_spec.specs.Journal.{journaled, count, room, note as note_of, entry_note, restored, undo as undo_of};
 ghost use Rattle.access_spec.specs.Clauses.{exit_world};
 ghost use Rattle.mmu.specs.Walk.{recorded};
 
@@ -77,7 +77,7 @@ fn entries(journal: &Journal) -> usize
 
 // All entries put back, the last one first.
 pub fn undo(m: &mut [u8], journal: &Journal)
-    ensures { m.new ≡ undoOf journal.now m.old }
+    ensures { m.new ≡ undo_of journal.now m.old }
 {
     let mut i = entries(journal);
     while 0 < i {

@@ -1,7 +1,7 @@
 -- Words for contracts over lent parameters: what is lent has a value at entry and one at exit.
 -- Assumes nothing.
 use Rattle.std.specs.Prelude.{ℕ, ◌^◌, ◌<◌, ◌≡◌, Bool, true, false}
-use Rattle.std.specs.Borrow.{Bor}
+use Rattle.std.specs.Borrow.{Bor, MutBor}
 use denote.Triple.Both.{Both}
 use Rattle.memory.specs.Answers.{answer_of}
 use Rattle.memory.specs.Bytes.{Memory}
@@ -11,7 +11,14 @@ use Rattle.access_spec.specs.Journal.{Journal, Journaled, journaled, logging}
 
 -- what a contract knows by the name of a lent parameter
 abbrev pub Lent : Type 0 → Type 0
-Lent X = Both (Bor X) (Bor X)
+Lent X = Both (MutBor X) (MutBor X)
+
+-- the same by the name of one that is only read
+abbrev pub seen : {X : Type 0} → Bor X → MutBor X
+seen b = record { ref_ptr = b.ref_ptr; ghost_name = 0; now = b.now }
+
+abbrev pub only_read : {X : Type 0} → Both (Bor X) (Bor X) → Lent X
+only_read b = record { entry = seen b.entry; exit = seen b.exit }
 
 -- it is left as it was
 abbrev pub unchanged : {X : Type 0} → Lent X → Type 0
@@ -37,16 +44,16 @@ abbrev pub Answers : ℕ → Lent Memory → Lent Journal → Access → Type 0
 Answers x m j q = response (answer_of x) (exit_world m j) ≡ logging q (entry_world m j)
 
 -- the same of an access that notes and changes nothing, under a journal j
-abbrev pub AnswersReadOnly : ℕ → Lent Memory → Journal → Access → Type 0
-AnswersReadOnly x m j q = response (answer_of x) (journaled m.entry.now j) ≡ logging q (journaled m.entry.now j)
+abbrev pub AnswersReadOnly : ℕ → Memory → Journal → Access → Type 0
+AnswersReadOnly x m j q = response (answer_of x) (journaled m j) ≡ logging q (journaled m j)
 
 -- the program p ends with out, and memory and journal are left as p leaves them
 abbrev pub Interprets : {A : Type 0} → A → Lent Memory → Lent Journal → Program A → Type 0
 Interprets out m j p = response out (exit_world m j) ≡ interpret logging p (entry_world m j)
 
 -- the same of a program that notes and changes nothing, under a journal j
-abbrev pub InterpretsReadOnly : {A : Type 0} → A → Lent Memory → Journal → Program A → Type 0
-InterpretsReadOnly out m j p = response out (journaled m.entry.now j) ≡ interpret logging p (journaled m.entry.now j)
+abbrev pub InterpretsReadOnly : {A : Type 0} → A → Memory → Journal → Program A → Type 0
+InterpretsReadOnly out m j p = response out (journaled m j) ≡ interpret logging p (journaled m j)
 
 -- of the program p the code did a part: what is left of it, rest, ends on what the code left as p does on what was lent
 abbrev pub Continues : {A : Type 0} → Program A → Lent Memory → Lent Journal → Program A → Type 0

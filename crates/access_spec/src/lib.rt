@@ -1,3 +1,4 @@
+#![tactic(auto)]
 // No code: programs of accesses, what a world does with them, and the journal that undoes them.
 
 // The journal of a step: how many entries it has, then each of them, with room for as many as a step can make.

@@ -1,3 +1,4 @@
+#![tactic(auto)]
 // Lines of the board program: what one says, the bytes that frame 02 stores, the lines that are printed, and their totals.
 pub mod answers;
 pub mod digits;
@@ -9,7 +10,7 @@ pub mod totals;
 pub type Tally = [u32; 3];
 
 // A frame by its kind; Bad is refusal 7.
-#[derive(Drop)]
+#[derive(Clone, Copy)]
 pub enum Frame {
     // 01: the register's place in Table 1-1, and its word.
     Set(u32, u32),

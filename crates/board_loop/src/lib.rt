@@ -1,3 +1,4 @@
+#![tactic(auto)]
 // The loop of a board program: lines from standard input, answers to standard output. It reads, makes an exchange of
 // the conversation (`board_conversation::exchanges`), and writes what that answered; no contract can say what is read or written.
 use board_conversation::LoopState;

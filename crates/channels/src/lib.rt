@@ -1,3 +1,4 @@
+#![tactic(auto)]
 // Standard input and output. A call that a signal interrupts, or that would have to wait, is made again; any other that
 // fails writes one line to standard error. No contract can say what is read or written.
 mod waiting;
@@ -5,7 +6,7 @@ mod waiting;
 use crate::waiting::pause;
 
 // What is there after a read.
-#[derive(Drop)]
+#[derive(Clone, Copy)]
 pub enum Input {
     // The block is filled up to here.
     Filled(usize),

@@ -33,7 +33,7 @@ abbrev pub EndsAnyCache : ℕ → Lent Memory → Lent Journal → Lent Bank →
 EndsAnyCache x m j r f = (q : Cache) → Interprets (cpu_out (answer_of x) r.exit.now q) m j (f (cpu r.entry.now q))
 
 -- nor is the journal, and memory is only read
-abbrev pub EndsReadOnly : ℕ → Lent Memory → Lent Bank → (Cpu → Program (Out Cpu)) → Type 0
+abbrev pub EndsReadOnly : ℕ → Memory → Lent Bank → (Cpu → Program (Out Cpu)) → Type 0
 EndsReadOnly x m r f =
     (q : Cache) (j : Journal) → InterpretsReadOnly (cpu_out (answer_of x) r.exit.now q) m j (f (cpu r.entry.now q))
 
@@ -48,11 +48,11 @@ abbrev pub Yields : ℕ → Lent Memory → Lent Journal → Lent Cache → Lent
 Yields x m j q r f = YieldsAs (λ v. v) x m j q r f
 
 -- neither cache nor journal is lent, and memory is only read
-abbrev pub YieldsReadOnly : ℕ → Lent Memory → Lent Bank → (Cpu → Program (Out ℕ)) → Type 0
+abbrev pub YieldsReadOnly : ℕ → Memory → Lent Bank → (Cpu → Program (Out ℕ)) → Type 0
 YieldsReadOnly x m r f =
     (q : Cache) (j : Journal)
     → InterpretsReadOnly (value_out (answer_of x) r.exit.now q) m j (f (cpu r.entry.now q)) × unless_faulted x (unchanged r)
 
 -- registers are only read, whatever the cache: out says of a machine what the code's answer is there
-abbrev pub Fetches : {A : Type 0} → (Cpu → Out A) → Lent Memory → Lent Journal → Lent Bank → (Cpu → Program (Out A)) → Type 0
-Fetches out m j r f = (q : Cache) → Interprets (out (cpu r.entry.now q)) m j (f (cpu r.entry.now q))
+abbrev pub Fetches : {A : Type 0} → (Cpu → Out A) → Lent Memory → Lent Journal → Bank → (Cpu → Program (Out A)) → Type 0
+Fetches out m j r f = (q : Cache) → Interprets (out (cpu r q)) m j (f (cpu r q))

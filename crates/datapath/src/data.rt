@@ -6,7 +6,7 @@ ghost use Rattle.memory.specs.Answers.{answer_of};
 ghost use Rattle.access_spec.specs.Access.{response, fetch as fetches, read as reads, write as writes, probe as probes};
 ghost use Rattle.access_spec.specs.Program.{interpret};
 ghost use Rattle.access_spec.specs.Journal.{logging};
-ghost use Rattle.access_spec.specs.Clauses.{Answers, AnswersReadOnly, Interprets};
+ghost use Rattle.access_spec.specs.Clauses.{only_read, Answers, AnswersReadOnly, Interprets};
 ghost use Rattle.machine.specs.Status.{regime, kernel_regime};
 ghost use Rattle.access.specs.Followed.{only_memory};
 ghost use Rattle.datapath.specs.Parts.{replied};
@@ -26,8 +26,8 @@ use word::Width;
 
 // An operand in the stack cache.
 fn read_cached(q: &Quads, r: &Bank, w: Width, a: u32) -> u64
-    ensures { response (replied (entry_cpu q r) a (answer_of result)) (only_memory [])
-        ≡ interpret logging (read_cached (entry_cpu q r) w a) (only_memory []) }
+    ensures { response (replied (entry_cpu (only_read q) (only_read r)) a (answer_of result)) (only_memory [])
+        ≡ interpret logging (read_cached (entry_cpu (only_read q) (only_read r)) w a) (only_memory []) }
 {
     if aligned(w, a) {
         good(machine::cache::cache_read(w, q, place(is_little(r), w, a)))
@@ -38,7 +38,7 @@ fn read_cached(q: &Quads, r: &Bank, w: Width, a: u32) -> u64
 
 // An operand as an unsigned number.
 pub fn read_data(m: &mut [u8], journal: &mut Journal, q: &Quads, r: &Bank, w: Width, a: u32) -> u64
-    ensures { Interprets (replied (entry_cpu q r) a (answer_of result)) m journal (read_data (entry_cpu q r) w a) }
+    ensures { Interprets (replied (entry_cpu (only_read q) (only_read r)) a (answer_of result)) m journal (read_data (entry_cpu (only_read q) (only_read r)) w a) }
 {
     if cached(r, a) {
         read_cached(q, r, w, a)
@@ -49,8 +49,8 @@ pub fn read_data(m: &mut [u8], journal: &mut Journal, q: &Quads, r: &Bank, w: Wi
 }
 
 fn write_cached(q: &mut Quads, r: &Bank, w: Width, a: u32, v: u32) -> u64
-    ensures { response (write_out (exit_cpu q r) a (answer_of result)) (only_memory [])
-        ≡ interpret logging (write_cached (entry_cpu q r) w a v) (only_memory []) }
+    ensures { response (write_out (exit_cpu q (only_read r)) a (answer_of result)) (only_memory [])
+        ≡ interpret logging (write_cached (entry_cpu q (only_read r)) w a v) (only_memory []) }
 {
     if aligned(w, a) {
         machine::cache::cache_write(w, q, place(is_little(r), w, a), v);
@@ -70,7 +70,7 @@ pub fn write_data(
     a: u32,
     v: u32,
 ) -> u64
-    ensures { Interprets (write_out (exit_cpu q r) a (answer_of result)) m journal (write_data (entry_cpu q r) w a v) }
+    ensures { Interprets (write_out (exit_cpu q (only_read r)) a (answer_of result)) m journal (write_data (entry_cpu q (only_read r)) w a v) }
 {
     if cached(r, a) {
         write_cached(q, r, w, a, v)
@@ -102,7 +102,7 @@ pub fn fetch_parcel(m: &mut [u8], journal: &mut Journal, r: &Bank, a: u32) -> u6
 
 // Whether stores at an address are valid at the current level.
 pub fn check_store(m: &[u8], r: &Bank, a: u32) -> u64
-    ensures { AnswersReadOnly result m [] (probes (regime r.now) a) }
+    ensures { AnswersReadOnly result m.now [] (probes (regime r.now) a) }
 {
     access::accesses::probe(m, r[STB], is_user(r), is_virtual(r), a)
 }

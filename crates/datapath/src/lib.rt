@@ -1,3 +1,4 @@
+#![tactic(auto)]
 // The accesses of an instruction: data, text and frames, and the address that a fault leaves.
 pub mod data;
 pub mod faults;

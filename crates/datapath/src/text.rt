@@ -18,7 +18,7 @@ use word::sums::plus;
 
 // The two words after a first parcel, as far as it calls for them, and the exception that stopped the fetch with 2^32
 // added; 0 is no exception.
-#[derive(Drop)]
+#[derive(Clone, Copy)]
 pub struct OperandParcels {
     pub fault: u64,
     pub source: u32,
@@ -26,7 +26,7 @@ pub struct OperandParcels {
 }
 
 // The parcels, or the exception.
-#[derive(Drop)]
+#[derive(Clone, Copy)]
 pub struct Fetched {
     pub fault: u64,
     pub text: Text,
@@ -34,7 +34,7 @@ pub struct Fetched {
 
 // Two parcels as a word, the first one high.
 fn fetch_two(m: &mut [u8], journal: &mut Journal, r: &Bank, a: u32) -> u64
-    ensures { Fetches (λ c. joined_out c (answer_of result)) m journal r (λ c. fetch_two c a) }
+    ensures { Fetches (λ c. joined_out c (answer_of result)) m journal r.now (λ c. fetch_two c a) }
 {
     let x = fetch_parcel(m, journal, r, a);
     if EXCEPTION <= x {
@@ -71,7 +71,7 @@ fn fetch_stopped(fault: u64) -> OperandParcels
 
 // The parcels after p, which stand from a on.
 fn fetch_operands(m: &mut [u8], journal: &mut Journal, r: &Bank, a: u32, p: u16) -> OperandParcels
-    ensures { Fetches (λ c. operands_out c p result) m journal r (λ c. fetch_parcels c a (following p)) }
+    ensures { Fetches (λ c. operands_out c p result) m journal r.now (λ c. fetch_parcels c a (following p)) }
 {
     let form = form_bits(p);
     if form < 2 {
@@ -194,7 +194,7 @@ fn prefixed(p: u16, o: OperandParcels) -> Text
 
 // The instruction whose first parcel p stands at PC.
 fn fetch_after(m: &mut [u8], journal: &mut Journal, r: &Bank, p: u16) -> Fetched
-    ensures { Fetches (λ c. text_out c result) m journal r (λ c. fetch_after c p) }
+    ensures { Fetches (λ c. text_out c result) m journal r.now (λ c. fetch_after c p) }
 {
     let o = fetch_operands(m, journal, r, plus(r[PC], 2), p);
     Fetched {
@@ -204,7 +204,7 @@ fn fetch_after(m: &mut [u8], journal: &mut Journal, r: &Bank, p: u16) -> Fetched
 }
 
 fn fetch_prefixed(m: &mut [u8], journal: &mut Journal, r: &Bank) -> Fetched
-    ensures { Fetches (λ c. text_out c result) m journal r fetch_prefixed }
+    ensures { Fetches (λ c. text_out c result) m journal r.now fetch_prefixed }
 {
     let x = fetch_parcel(m, journal, r, plus(r[PC], 2));
     if EXCEPTION <= x {
@@ -223,7 +223,7 @@ fn fetch_prefixed(m: &mut [u8], journal: &mut Journal, r: &Bank) -> Fetched
 
 // All parcels that the instruction at PC calls for.
 pub fn fetch_text(m: &mut [u8], journal: &mut Journal, r: &Bank) -> Fetched
-    ensures { Fetches (λ c. text_out c result) m journal r fetch_text }
+    ensures { Fetches (λ c. text_out c result) m journal r.now fetch_text }
 {
     let x = fetch_parcel(m, journal, r, r[PC]);
     if EXCEPTION <= x {

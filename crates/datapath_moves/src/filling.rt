@@ -5,14 +5,14 @@ ghost use Rattle.memory.specs.Answers.{answer_of};
 ghost use Rattle.mmu.specs.declared.AccessKind.TheVariants as kind;
 ghost use Rattle.access_spec.specs.Access.{read as reads};
 ghost use Rattle.access_spec.specs.Journal.{Journal};
-ghost use Rattle.access_spec.specs.Clauses.{Interprets, AnswersReadOnly, InterpretsReadOnly};
+ghost use Rattle.access_spec.specs.Clauses.{only_read, Interprets, AnswersReadOnly, InterpretsReadOnly};
 ghost use Rattle.machine.specs.Registers.{Bank};
 ghost use Rattle.machine.specs.Cache.{Cache};
 ghost use Rattle.machine.specs.Status.{cpu};
 ghost use Rattle.access.specs.Followed.{regime_for};
 ghost use Rattle.access.specs.Quads.{Quad};
 ghost use Rattle.datapath.specs.Code.{cpu_out};
-ghost use Rattle.datapath.specs.Moves.{fill_quad, may_fill, fill as fillOf};
+ghost use Rattle.datapath.specs.Moves.{fill_quad, may_fill, fill as fill_of};
 ghost use Rattle.datapath.specs.Clauses.{entry_cpu, Ends};
 ghost use Rattle.datapath_moves.specs.Words.{reading_stopped, quad_out};
 
@@ -30,7 +30,7 @@ use word::fields::field;
 use word::sums::{minus, plus};
 
 // The last word of a quad-word and the three before it; or the answer that faulted, and the address of its word.
-#[derive(Drop)]
+#[derive(Clone, Copy)]
 pub struct QuadWords {
     pub answer: u64,
     pub at: u32,
@@ -117,7 +117,7 @@ fn fill_words(
 // alone.)
 fn read_beside(m: &[u8], stb: u32, user: bool, a: u32, pa: u32, i: u32) -> u64
     requires { Quad user stb kind.Read a m.now pa × (i < 16) × (i % 4 ≡ 0) }
-    ensures { ((j : Journal) → AnswersReadOnly result m j (reads (regime_for stb user true) width.Word (a + i))) × (result < 2 ^ 32) }
+    ensures { ((j : Journal) → AnswersReadOnly result (only_read m) j (reads (regime_for stb user true) width.Word (a + i))) × (result < 2 ^ 32) }
 {
     load_word(m, pa + i)
 }
@@ -126,7 +126,7 @@ fn read_beside(m: &[u8], stb: u32, user: bool, a: u32, pa: u32, i: u32) -> u64
 fn fill_found(m: &[u8], q: &mut Quads, r: &mut Bank, stb: u32, user: bool, a: u32, pa: u32) -> u64
     requires { Quad user stb kind.Read a m.now pa }
     ensures { (j : Journal)
-        → InterpretsReadOnly (cpu_out (answer_of result) r.new q.new) m j (fill_quad (entry_cpu q r) (regime_for stb user true) a) }
+        → InterpretsReadOnly (cpu_out (answer_of result) r.new q.new) (only_read m) j (fill_quad (entry_cpu q r) (regime_for stb user true) a) }
 {
     let x0 = read_beside(m, stb, user, a, pa, 0);
     let x1 = read_beside(m, stb, user, a, pa, 4);
@@ -178,7 +178,7 @@ pub fn fill(
     translated: bool,
     target: u32,
 ) -> u64
-    ensures { Ends result m journal q r (λ c. fillOf (regime_for stb user translated) target 16 c) }
+    ensures { Ends result m journal q r (λ c. fill_of (regime_for stb user translated) target 16 c) }
 {
     let mut x: u64 = 0;
     let mut n: u32 = QUAD_WORDS;

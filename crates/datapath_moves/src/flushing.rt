@@ -4,14 +4,14 @@ ghost use Rattle.word.specs.declared.Width.TheVariants as width;
 ghost use Rattle.memory.specs.Answers.{answer_of};
 ghost use Rattle.mmu.specs.declared.AccessKind.TheVariants as kind;
 ghost use Rattle.access_spec.specs.Access.{write as writes};
-ghost use Rattle.access_spec.specs.Clauses.{Answers, Interprets};
+ghost use Rattle.access_spec.specs.Clauses.{only_read, Answers, Interprets};
 ghost use Rattle.machine.specs.Registers.{Bank};
 ghost use Rattle.machine.specs.Status.{cpu, regime};
 ghost use Rattle.access.specs.Followed.{regime_for};
 ghost use Rattle.access.specs.Quads.{Quad};
 ghost use Rattle.datapath.specs.Parts.{replied};
 ghost use Rattle.datapath.specs.Code.{cpu_out};
-ghost use Rattle.datapath.specs.Moves.{flush_word, flush_quad, may_flush, flush as flushOf};
+ghost use Rattle.datapath.specs.Moves.{flush_word, flush_quad, may_flush, flush as flush_of};
 ghost use Rattle.datapath.specs.Clauses.{entry_cpu, Ends};
 
 use crate::QUAD_WORDS;
@@ -28,7 +28,7 @@ use word::Width;
 use word::sums::{minus, plus};
 
 fn flush_word(m: &mut [u8], journal: &mut Journal, q: &Quads, r: &Bank, a: u32) -> u64
-    ensures { Interprets (replied (entry_cpu q r) a (answer_of result)) m journal (flush_word (entry_cpu q r) a) }
+    ensures { Interprets (replied (entry_cpu (only_read q) (only_read r)) a (answer_of result)) m journal (flush_word (entry_cpu (only_read q) (only_read r)) a) }
 {
     let v = cache_word(q, a);
     access::accesses::write(
@@ -45,7 +45,7 @@ fn flush_word(m: &mut [u8], journal: &mut Journal, q: &Quads, r: &Bank, a: u32) 
 
 // The quad-word at a word by word, and MSP down to it; words stored before a fault stay.
 fn flush_words(m: &mut [u8], journal: &mut Journal, q: &Quads, r: &mut Bank, a: u32) -> u64
-    ensures { Ends result m journal q r (λ c. flush_quad c a) }
+    ensures { Ends result m journal (only_read q) r (λ c. flush_quad c a) }
 {
     let x0 = flush_word(m, journal, q, r, a);
     if EXCEPTION <= x0 {
@@ -118,7 +118,7 @@ fn flush_found(
 
 // The quad-word at a, by one walk where that does for its four words.
 fn flush_quad(m: &mut [u8], journal: &mut Journal, q: &Quads, r: &mut Bank, a: u32) -> u64
-    ensures { Ends result m journal q r (λ c. flush_quad c a) }
+    ensures { Ends result m journal (only_read q) r (λ c. flush_quad c a) }
 {
     let translated = is_virtual(r);
     let stb = r[STB];
@@ -150,7 +150,7 @@ pub fn flush(
     all: bool,
     target: u32,
 ) -> u64
-    ensures { Ends result m journal q r (λ c. flushOf all target 16 c) }
+    ensures { Ends result m journal (only_read q) r (λ c. flush_of all target 16 c) }
 {
     let mut x: u64 = 0;
     let mut n: u32 = QUAD_WORDS;

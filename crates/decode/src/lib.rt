@@ -1,3 +1,4 @@
+#![tactic(auto)]
 // The decoder: what one to six parcels say (sections 1.6 and 1.11.4), an instruction with its length. Here: a prefix and the form,
 // by the first parcel or the one after a prefix; parcels by value, or lent.
 pub mod dyadic;

@@ -1,3 +1,4 @@
+#![tactic(auto)]
 // The encoder: the parcels of an instruction at a named length, or refusal 5 (section 3.3).
 mod dyadic;
 mod monadic;

@@ -4,7 +4,7 @@ ghost use Rattle.isa.specs.declared.MonadicMode.{MonadicMode};
 ghost use Rattle.datapath.specs.Parts.{onward};
 ghost use Rattle.exec_rows.specs.Rows.{action_of};
 ghost use Rattle.step_pending.specs.Traces.{traced_from};
-ghost use Rattle.exec_spec.specs.Execute.{one_operand, traced as tracedOf};
+ghost use Rattle.exec_spec.specs.Execute.{one_operand, traced as traced_of};
 ghost use Rattle.step_spec.specs.Step.{to_instruction, to_vector, dispatch};
 ghost use Rattle.run_spec.specs.Run.{is_kcall};
 ghost use Rattle.exec.specs.Code.{act_of, attempt_of, Attempts};
@@ -54,7 +54,7 @@ fn is_kcall(a: Action) -> bool
 
 // What tracing makes of an instruction, as a number below 3.
 fn class_of(a: Action) -> u64
-    ensures { (traced_from result ≡ tracedOf (action_of a)) × (result < 3) }
+    ensures { (traced_from result ≡ traced_of (action_of a)) × (result < 3) }
 {
     let k = traced(a);
     if k < 2 { k as u64 } else { 2 }

@@ -1,3 +1,4 @@
+#![tactic(auto)]
 // An attempt at the instruction at PC: fetched, decoded and executed.
 pub mod attempt;
 pub mod execute;

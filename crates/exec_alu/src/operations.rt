@@ -1,6 +1,6 @@
 // What the instructions of two operands compute.
 ghost use Rattle.std.specs.Prelude.{◌≡◌};
-ghost use Rattle.exec_spec.specs.Alu.{operate as operateOf, divides as dividesOf, related as relatedOf};
+ghost use Rattle.exec_spec.specs.Alu.{operate as operate_of, divides as divides_of, related as related_of};
 ghost use Rattle.exec_alu.specs.Results.{unpacked};
 ghost use Rattle.exec_spec.specs.Dyadic.{tagged_with, tagged_over};
 
@@ -18,7 +18,7 @@ use word::tags::{tagged_add, tagged_sub};
 
 // An operation on destination d and source s: the value and the flags it sets, packed.
 pub fn operate(op: Operation, d: u32, s: u32) -> u64
-    ensures { unpacked result ≡ operateOf op d s }
+    ensures { unpacked result ≡ operate_of op d s }
 {
     match op {
         Operation::Add => packed_add(d, s),
@@ -39,7 +39,7 @@ pub fn operate(op: Operation, d: u32, s: u32) -> u64
 
 // Whether a source of 0 is a zero divide.
 pub fn divides(op: Operation) -> bool
-    ensures { result ≡ dividesOf op }
+    ensures { result ≡ divides_of op }
 {
     match op {
         Operation::Add => false,
@@ -60,7 +60,7 @@ pub fn divides(op: Operation) -> bool
 
 // CMP: src1 rel src2, the source operand first.
 pub fn related(r: Relation, s: u32, d: u32) -> bool
-    ensures { result ≡ relatedOf r s d }
+    ensures { result ≡ related_of r s d }
 {
     match r {
         Relation::Equal => equal(s, d),

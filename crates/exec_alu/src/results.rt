@@ -1,7 +1,7 @@
 // Results of operations with their flags, packed in a number: no branch and no division by 0 on the way.
 ghost use Rattle.std.specs.Prelude.{◌≡◌, false, ◌%◌, ◌<◌};
 ghost use Rattle.exec_spec.specs.declared.Operation.TheVariants.{Add, Sub, Mul, Div, Rem, Udiv, Urem, And, Or, Xor, Shl, Shr, Ushr};
-ghost use Rattle.exec_spec.specs.Alu.{stays, gets, flagged, operate as operateOf};
+ghost use Rattle.exec_spec.specs.Alu.{stays, gets, flagged, operate as operate_of};
 ghost use Rattle.exec_alu.specs.Results.{flag_from, result, unpacked, laid_over};
 
 use crate::psw::{digit, with_bit_as};
@@ -80,21 +80,21 @@ pub fn laid_over(w: u64, psw: u32) -> u32
 
 // ADD, SUB, MUL: both flags.
 pub fn packed_add(d: u32, s: u32) -> u64
-    ensures* { λ r. ⌜ unpacked r ≡ operateOf Add d s ⌝ }
+    ensures* { λ r. ⌜ unpacked r ≡ operate_of Add d s ⌝ }
 {
     let t = add(d, s);
     both_flags(t.value, t.carry, t.overflow)
 }
 
 pub fn packed_sub(d: u32, s: u32) -> u64
-    ensures* { λ r. ⌜ unpacked r ≡ operateOf Sub d s ⌝ }
+    ensures* { λ r. ⌜ unpacked r ≡ operate_of Sub d s ⌝ }
 {
     let t = sub(d, s);
     both_flags(t.value, t.carry, t.overflow)
 }
 
 pub fn packed_mul(d: u32, s: u32) -> u64
-    ensures* { λ r. ⌜ unpacked r ≡ operateOf Mul d s ⌝ }
+    ensures* { λ r. ⌜ unpacked r ≡ operate_of Mul d s ⌝ }
 {
     let t = mul(d, s);
     both_flags(t.value, t.carry, t.overflow)
@@ -102,14 +102,14 @@ pub fn packed_mul(d: u32, s: u32) -> u64
 
 // DIV and REM set the overflow.
 pub fn packed_div(d: u32, s: u32) -> u64
-    ensures* { λ r. ⌜ unpacked r ≡ operateOf Div d s ⌝ }
+    ensures* { λ r. ⌜ unpacked r ≡ operate_of Div d s ⌝ }
 {
     let t = div(d, s);
     overflow_only(t.value, t.overflow)
 }
 
 pub fn packed_rem(d: u32, s: u32) -> u64
-    ensures* { λ r. ⌜ unpacked r ≡ operateOf Rem d s ⌝ }
+    ensures* { λ r. ⌜ unpacked r ≡ operate_of Rem d s ⌝ }
 {
     let t = div(d, s);
     overflow_only(t.rest, false)
@@ -117,50 +117,50 @@ pub fn packed_rem(d: u32, s: u32) -> u64
 
 // UDIV and UREM clear the carry.
 pub fn packed_udiv(d: u32, s: u32) -> u64
-    ensures* { λ r. ⌜ unpacked r ≡ operateOf Udiv d s ⌝ }
+    ensures* { λ r. ⌜ unpacked r ≡ operate_of Udiv d s ⌝ }
 {
     carry_cleared(udiv(d, s))
 }
 
 pub fn packed_urem(d: u32, s: u32) -> u64
-    ensures* { λ r. ⌜ unpacked r ≡ operateOf Urem d s ⌝ }
+    ensures* { λ r. ⌜ unpacked r ≡ operate_of Urem d s ⌝ }
 {
     carry_cleared(urem(d, s))
 }
 
 // The others leave the flags.
 pub fn packed_and(d: u32, s: u32) -> u64
-    ensures* { λ r. ⌜ unpacked r ≡ operateOf And d s ⌝ }
+    ensures* { λ r. ⌜ unpacked r ≡ operate_of And d s ⌝ }
 {
     no_flags(bit_and(d, s))
 }
 
 pub fn packed_or(d: u32, s: u32) -> u64
-    ensures* { λ r. ⌜ unpacked r ≡ operateOf Or d s ⌝ }
+    ensures* { λ r. ⌜ unpacked r ≡ operate_of Or d s ⌝ }
 {
     no_flags(bit_or(d, s))
 }
 
 pub fn packed_xor(d: u32, s: u32) -> u64
-    ensures* { λ r. ⌜ unpacked r ≡ operateOf Xor d s ⌝ }
+    ensures* { λ r. ⌜ unpacked r ≡ operate_of Xor d s ⌝ }
 {
     no_flags(bit_xor(d, s))
 }
 
 pub fn packed_shl(d: u32, s: u32) -> u64
-    ensures* { λ r. ⌜ unpacked r ≡ operateOf Shl d s ⌝ }
+    ensures* { λ r. ⌜ unpacked r ≡ operate_of Shl d s ⌝ }
 {
     no_flags(shl(d, s))
 }
 
 pub fn packed_shr(d: u32, s: u32) -> u64
-    ensures* { λ r. ⌜ unpacked r ≡ operateOf Shr d s ⌝ }
+    ensures* { λ r. ⌜ unpacked r ≡ operate_of Shr d s ⌝ }
 {
     no_flags(shr(d, s))
 }
 
 pub fn packed_ushr(d: u32, s: u32) -> u64
-    ensures* { λ r. ⌜ unpacked r ≡ operateOf Ushr d s ⌝ }
+    ensures* { λ r. ⌜ unpacked r ≡ operate_of Ushr d s ⌝ }
 {
     no_flags(ushr(d, s))
 }

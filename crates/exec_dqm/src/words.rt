@@ -2,7 +2,7 @@
 ghost use Rattle.std.specs.Prelude.{◌≡◌, ℕ, List, [], ◌∷◌};
 ghost use Rattle.memory.specs.Answers.{answer_of};
 ghost use Rattle.access_spec.specs.Program.{Program};
-ghost use Rattle.access_spec.specs.Clauses.{Continues};
+ghost use Rattle.access_spec.specs.Clauses.{only_read, Continues};
 ghost use Rattle.machine.specs.Status.{Cpu};
 ghost use Rattle.datapath.specs.Parts.{Out};
 ghost use Rattle.datapath.specs.Clauses.{entry_cpu, Ends};
@@ -23,7 +23,7 @@ use word::Width;
 use word::sums::plus;
 
 // The last of two or four words or an exception, and the words before it.
-#[derive(Drop)]
+#[derive(Clone, Copy)]
 pub struct MovedWords {
     pub answer: u64,
     pub w0: u32,
@@ -59,7 +59,7 @@ fn is_aligned(double: bool, a: u32) -> bool
 
 // Two words from a on.
 fn load_pair(m: &mut [u8], journal: &mut Journal, q: &Quads, r: &mut Bank, a: u32) -> MovedWords
-    ensures { Resumes (ℕ → ℕ → Program (Out Cpu)) result.answer m journal q r (λ f y. f result.w0 y) (λ c f. loading c a f) }
+    ensures { Resumes (ℕ → ℕ → Program (Out Cpu)) result.answer m journal (only_read q) r (λ f y. f result.w0 y) (λ c f. loading c a f) }
 {
     let x = load(m, journal, q, r, Width::Word, a);
     if EXCEPTION <= x {
@@ -82,7 +82,7 @@ fn load_pair(m: &mut [u8], journal: &mut Journal, q: &Quads, r: &mut Bank, a: u3
 
 // Four.
 fn load_four(m: &mut [u8], journal: &mut Journal, q: &Quads, r: &mut Bank, a: u32) -> MovedWords
-    ensures { Resumes (ℕ → ℕ → ℕ → ℕ → Program (Out Cpu)) result.answer m journal q r
+    ensures { Resumes (ℕ → ℕ → ℕ → ℕ → Program (Out Cpu)) result.answer m journal (only_read q) r
         (λ f y. f result.w0 result.w1 result.w2 y) (λ c f. loading_four c a f) }
 {
     let p = load_pair(m, journal, q, r, a);
@@ -115,7 +115,7 @@ pub fn read_many(
     o: Operand,
     a: u32,
 ) -> MovedWords
-    ensures { Resumes (List ℕ → Program (Out Cpu)) result.answer m journal q r
+    ensures { Resumes (List ℕ → Program (Out Cpu)) result.answer m journal (only_read q) r
         (λ f y. f (words_for double result.w0 result.w1 result.w2 y)) (λ c f. many_then c double (place_at o a) f) }
 {
     if is_scalar(o) {

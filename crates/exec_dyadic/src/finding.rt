@@ -1,6 +1,7 @@
 // The operands of an instruction before it computes: the source's value, the destination's place and its value. A
 // contract says what any rest of an instruction gives after them.
 ghost use Rattle.std.specs.Prelude.{ℕ};
+ghost use Rattle.access_spec.specs.Clauses.{only_read};
 ghost use Rattle.access_spec.specs.Program.{Program};
 ghost use Rattle.machine.specs.Status.{Cpu};
 ghost use Rattle.datapath.specs.Parts.{Out};
@@ -16,14 +17,14 @@ use machine::{Bank, Quads};
 use memory::answers::{EXCEPTION, low32};
 
 // The destination's address or an exception, and the source's value.
-#[derive(Drop)]
+#[derive(Clone, Copy)]
 pub struct Found {
     pub answer: u64,
     pub source: u32,
 }
 
 // The destination's value or an exception, the source's value, and the destination's address.
-#[derive(Drop)]
+#[derive(Clone, Copy)]
 pub struct Both {
     pub answer: u64,
     pub source: u32,
@@ -40,7 +41,7 @@ pub fn find(
     s: Operand,
     d: Operand,
 ) -> Found
-    ensures { Resumes (ℕ → Place → Program (Out Cpu)) result.answer m journal q r
+    ensures { Resumes (ℕ → Place → Program (Out Cpu)) result.answer m journal (only_read q) r
         (λ f a. f result.source (place_at d a)) (λ c f. finding c wide s d f) }
 {
     let x = read_operand(m, journal, q, r, wide, s);
@@ -68,7 +69,7 @@ pub fn read_both(
     s: Operand,
     d: Operand,
 ) -> Both
-    ensures { Resumes (ℕ → Place → ℕ → Program (Out Cpu)) result.answer m journal q r
+    ensures { Resumes (ℕ → Place → ℕ → Program (Out Cpu)) result.answer m journal (only_read q) r
         (λ f y. f result.source (place_at d result.address) y) (λ c f. with_operands c wide s d f) }
 {
     let f = find(m, journal, q, r, wide, s, d);

@@ -1,3 +1,4 @@
+#![tactic(auto)]
 // Instructions of two operands: source, destination, zero divide, write (section 3.3).
 pub mod finding;
 pub mod moving;

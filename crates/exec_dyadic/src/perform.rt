@@ -1,6 +1,6 @@
 // An instruction of two operands by its task; privilege and missing registers come before any access.
 ghost use Rattle.datapath.specs.Clauses.{Ends};
-ghost use Rattle.exec_spec.specs.Dyadic.{perform as performOf, dyadic as dyadic_of};
+ghost use Rattle.exec_spec.specs.Dyadic.{perform as perform_of, dyadic as dyadic_of};
 
 use crate::moving::{move_address, move_operand};
 use crate::results::{accumulate, compare, compute, interlock};
@@ -23,7 +23,7 @@ fn perform(
     s: Operand,
     d: Operand,
 ) -> u64
-    ensures { Ends result m journal q r (λ c. performOf c wide task s d) }
+    ensures { Ends result m journal q r (λ c. perform_of c wide task s d) }
 {
     match task {
         Task::Compute(op) => compute(m, journal, q, r, wide, op, s, d),

@@ -1,6 +1,7 @@
 // Results and comparisons: the destination is read, then a result is written and its flags laid over PSW.
 ghost use Rattle.datapath.specs.Clauses.{Ends};
-ghost use Rattle.exec_spec.specs.Dyadic.{compute as computeOf, accumulate as accumulateOf, interlock as interlockOf, compare as compareOf, put_result, accumulate_result, compute_with, accumulate_with, interlock_with};
+ghost use Rattle.access_spec.specs.Clauses.{only_read};
+ghost use Rattle.exec_spec.specs.Dyadic.{compute as compute_of, accumulate as accumulate_of, interlock as interlock_of, compare as compare_of, put_result, accumulate_result, compute_with, accumulate_with, interlock_with};
 ghost use Rattle.exec_alu.specs.Results.{unpacked};
 ghost use Rattle.exec_operands.specs.Code.{place_at};
 
@@ -130,7 +131,7 @@ pub fn compute(
     s: Operand,
     d: Operand,
 ) -> u64
-    ensures { Ends result m journal q r (λ c. computeOf c wide op s d) }
+    ensures { Ends result m journal q r (λ c. compute_of c wide op s d) }
 {
     let b = read_both(m, journal, q, r, wide, s, d);
     if EXCEPTION <= b.answer {
@@ -161,7 +162,7 @@ pub fn accumulate(
     s: Operand,
     d: Operand,
 ) -> u64
-    ensures { Ends result m journal q r (λ c. accumulateOf c wide op s d) }
+    ensures { Ends result m journal q r (λ c. accumulate_of c wide op s d) }
 {
     let b = read_both(m, journal, q, r, wide, s, d);
     if EXCEPTION <= b.answer {
@@ -182,7 +183,7 @@ pub fn interlock(
     s: Operand,
     d: Operand,
 ) -> u64
-    ensures { Ends result m journal q r (λ c. interlockOf c wide op s d) }
+    ensures { Ends result m journal q r (λ c. interlock_of c wide op s d) }
 {
     let b = read_both(m, journal, q, r, wide, s, d);
     if EXCEPTION <= b.answer {
@@ -213,7 +214,7 @@ pub fn compare(
     s: Operand,
     d: Operand,
 ) -> u64
-    ensures { Ends result m journal q r (λ c. compareOf c wide relation s d) }
+    ensures { Ends result m journal (only_read q) r (λ c. compare_of c wide relation s d) }
 {
     let b = read_both(m, journal, q, r, wide, s, d);
     if EXCEPTION <= b.answer {

@@ -1,6 +1,7 @@
 // KCALL and KRET.
 ghost use Rattle.datapath.specs.Clauses.{Ends, EndsAnyCache};
-ghost use Rattle.exec_spec.specs.EventFrames.{kcall as kcallOf, kret as kretOf};
+ghost use Rattle.access_spec.specs.Clauses.{only_read};
+ghost use Rattle.exec_spec.specs.EventFrames.{kcall as kcall_of, kret as kret_of};
 
 use crate::pushes::{push_frame, through_vector};
 use access_spec::Journal;
@@ -25,7 +26,7 @@ pub fn kcall(
     v: u32,
     n: u32,
 ) -> u64
-    ensures { Ends result m journal q r (λ c. kcallOf c mode v n) }
+    ensures { Ends result m journal (only_read q) r (λ c. kcall_of c mode v n) }
 {
     let x = read_word32(m, journal, q, r, mode, v);
     if EXCEPTION <= x {
@@ -42,7 +43,7 @@ pub fn kcall(
 
 // At kernel level; at user level it is exception 5.
 pub fn kret(m: &mut [u8], journal: &mut Journal, r: &mut Bank) -> u64
-    ensures { EndsAnyCache result m journal r kretOf }
+    ensures { EndsAnyCache result m journal r kret_of }
 {
     let i = plus(r[ISP], 8);
     let x = read_frame(m, journal, r, i);

@@ -1,5 +1,6 @@
 // Event sequences: interrupts, exceptions and unimplemented instructions (1.11).
 ghost use Rattle.std.specs.Prelude.{cond};
+ghost use Rattle.access_spec.specs.Clauses.{only_read};
 ghost use Rattle.word.specs.declared.Width.TheVariants as width;
 ghost use Rattle.machine.specs.Registers.{pc, sp};
 ghost use Rattle.machine.specs.Status.{sp_current, reg};
@@ -48,7 +49,7 @@ pub fn exception_sequence(m: &mut [u8], journal: &mut Journal, r: &mut Bank, e: 
 
 // PC at the interrupt stack pointer.
 fn store_pc(m: &mut [u8], journal: &mut Journal, r: &Bank) -> u64
-    ensures { EndsAnyCache result m journal r store_pc }
+    ensures { EndsAnyCache result m journal (only_read r) store_pc }
 {
     let i = r[ISP];
     let p = r[PC];

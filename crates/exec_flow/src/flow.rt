@@ -1,6 +1,7 @@
 // CALL, JMP, JMPT, JMPF, LDRAA and RETURN.
 ghost use Rattle.datapath.specs.Clauses.{Ends};
-ghost use Rattle.exec_spec.specs.Control.{jump as jumpOf, jump_if, call as call_of, load_address, return as returnOf, call_to, load_accumulator};
+ghost use Rattle.access_spec.specs.Clauses.{only_read};
+ghost use Rattle.exec_spec.specs.Control.{jump as jump_of, jump_if, call as call_of, load_address, return as return_of, call_to, load_accumulator};
 
 use crate::words::{read_word32, stack_pointer};
 use access_spec::Journal;
@@ -19,7 +20,7 @@ pub fn jump(
     mode: MonadicMode,
     v: u32,
 ) -> u64
-    ensures { Ends result m journal q r (λ c. jumpOf c mode v) }
+    ensures { Ends result m journal (only_read q) r (λ c. jump_of c mode v) }
 {
     let x = read_word32(m, journal, q, r, mode, v);
     if EXCEPTION <= x {
@@ -40,7 +41,7 @@ pub fn jump_if(
     v: u32,
     n: u32,
 ) -> u64
-    ensures { Ends result m journal q r (λ c. jump_if taken c mode v n) }
+    ensures { Ends result m journal (only_read q) r (λ c. jump_if taken c mode v n) }
 {
     if taken {
         jump(m, journal, q, r, mode, v)
@@ -123,7 +124,7 @@ pub fn load_address(
 
 // RETURN.
 pub fn return_from(m: &mut [u8], journal: &mut Journal, q: &Quads, r: &mut Bank, v: u32) -> u64
-    ensures { Ends result m journal q r (λ c. returnOf c v) }
+    ensures { Ends result m journal (only_read q) r (λ c. return_of c v) }
 {
     let a = stack_address(r, v);
     let x = load(m, journal, q, r, Width::Word, a);

@@ -1,5 +1,6 @@
 // The operands of word modes, and the current stack pointer. A fault leaves its address.
 ghost use Rattle.std.specs.Prelude.{◌≡◌};
+ghost use Rattle.access_spec.specs.Clauses.{only_read};
 ghost use Rattle.machine.specs.Registers.{word};
 ghost use Rattle.machine.specs.Status.{csp};
 ghost use Rattle.datapath.specs.Clauses.{Yields};
@@ -18,7 +19,7 @@ use word::sums::plus;
 
 // The word that the word at a points to.
 pub fn read_through(m: &mut [u8], journal: &mut Journal, q: &Quads, r: &mut Bank, a: u32) -> u64
-    ensures { Yields result m journal q r (λ c. read_through c a) }
+    ensures { Yields result m journal (only_read q) r (λ c. read_through c a) }
 {
     let x = load(m, journal, q, r, Width::Word, a);
     if EXCEPTION <= x {
@@ -36,7 +37,7 @@ pub fn read_word32(
     mode: MonadicMode,
     v: u32,
 ) -> u64
-    ensures { Yields result m journal q r (λ c. read_word32 c mode v) }
+    ensures { Yields result m journal (only_read q) r (λ c. read_word32 c mode v) }
 {
     match mode {
         MonadicMode::WordAbsolute => load(m, journal, q, r, Width::Word, v),

@@ -1,3 +1,4 @@
+#![tactic(auto)]
 // Operands of instructions that have two: where they are, how they are read and written, and which may be named.
 pub mod accumulator;
 pub mod checks;

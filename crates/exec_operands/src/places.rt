@@ -1,5 +1,6 @@
 // Where operands are, and how they are read and written there: an address stands for a place in memory, 0 for others.
 ghost use Rattle.std.specs.Prelude.{◌≡◌};
+ghost use Rattle.access_spec.specs.Clauses.{only_read};
 ghost use Rattle.isa.specs.declared.Operand.TheVariants as operand;
 ghost use Rattle.datapath.specs.Clauses.{Ends, YieldsAs, Yields};
 ghost use Rattle.exec_spec.specs.Operands.{mode_kind, located, locate, in_memory, read_place, read_operand, write_place};
@@ -42,7 +43,7 @@ fn locate_general(
     mode: Mode,
     v: u32,
 ) -> u64
-    ensures { YieldsAs (place_at (operand.General mode v)) result m journal q r (λ c. located c wide (mode_kind mode) mode v) }
+    ensures { YieldsAs (place_at (operand.General mode v)) result m journal (only_read q) r (λ c. located c wide (mode_kind mode) mode v) }
 {
     let k = mode_kind(mode);
     match k {
@@ -65,7 +66,7 @@ pub fn locate_at(
     wide: Wide,
     o: Operand,
 ) -> u64
-    ensures { YieldsAs (place_at o) result m journal q r (λ c. locate c wide o) }
+    ensures { YieldsAs (place_at o) result m journal (only_read q) r (λ c. locate c wide o) }
 {
     match o {
         Operand::General(mode, v) => locate_general(m, journal, q, r, wide, mode, v),
@@ -82,7 +83,7 @@ fn read_expanded(
     mode: Mode,
     a: u32,
 ) -> u64
-    ensures { Yields result m journal q r (λ c. read_place c (in_memory mode a)) }
+    ensures { Yields result m journal (only_read q) r (λ c. read_place c (in_memory mode a)) }
 {
     let x = load(m, journal, q, r, width_of(mode), a);
     if EXCEPTION <= x {
@@ -102,7 +103,7 @@ fn read_general(
     v: u32,
     a: u32,
 ) -> u64
-    ensures { Yields result m journal q r (λ c. read_place c (general_at (mode_kind mode) mode v a)) }
+    ensures { Yields result m journal (only_read q) r (λ c. read_place c (general_at (mode_kind mode) mode v a)) }
 {
     if is_constant(mode) {
         good(v)
@@ -120,7 +121,7 @@ pub fn read_at(
     o: Operand,
     a: u32,
 ) -> u64
-    ensures { Yields result m journal q r (λ c. read_place c (place_at o a)) }
+    ensures { Yields result m journal (only_read q) r (λ c. read_place c (place_at o a)) }
 {
     match o {
         Operand::General(mode, v) => read_general(m, journal, q, r, mode, v, a),
@@ -137,7 +138,7 @@ pub fn read_operand(
     wide: Wide,
     o: Operand,
 ) -> u64
-    ensures { Yields result m journal q r (λ c. read_operand c wide o) }
+    ensures { Yields result m journal (only_read q) r (λ c. read_operand c wide o) }
 {
     let a = locate_at(m, journal, q, r, wide, o);
     if EXCEPTION <= a {

@@ -4,8 +4,8 @@ ghost use Rattle.machine.specs.Registers.{isp, psw, shad};
 ghost use Rattle.machine.specs.Status.{with, reg};
 ghost use Rattle.word.specs.Sums.{minus_of};
 ghost use Rattle.datapath.specs.Clauses.{Becomes};
-ghost use Rattle.exec_spec.specs.Control.{jumped as jumpedOf};
-ghost use Rattle.exec_spec.specs.EventFrames.{returned as returnedOf, reset as resetOf};
+ghost use Rattle.exec_spec.specs.Control.{jumped as jumped_of};
+ghost use Rattle.exec_spec.specs.EventFrames.{returned as returned_of, reset as reset_of};
 
 use exec_alu::psw::masked;
 use machine::Bank;
@@ -26,7 +26,7 @@ pub fn pushed(b: &mut Bank)
 
 // PC from a vector, and the PSW of a handler.
 pub fn vectored(b: &mut Bank, a: u32)
-    ensures { Becomes b (λ c. with (jumpedOf c a) psw (reg c psw / 2 ^ 16 * 2 ^ 16)) }
+    ensures { Becomes b (λ c. with (jumped_of c a) psw (reg c psw / 2 ^ 16 * 2 ^ 16)) }
 {
     let p = masked(b[PSW]);
     b[PC] = clear_low(a, 1);
@@ -35,7 +35,7 @@ pub fn vectored(b: &mut Bank, a: u32)
 
 // KRET and CRET: the words a and p of PC and PSW restored, and the frame left.
 pub fn returned(b: &mut Bank, a: u32, p: u32)
-    ensures { Becomes b (λ c. returnedOf c a p) }
+    ensures { Becomes b (λ c. returned_of c a p) }
 {
     let i = plus(b[ISP], 16);
     b[PC] = clear_low(a, 1);
@@ -50,7 +50,7 @@ pub fn returned(b: &mut Bank, a: u32, p: u32)
 
 // The reset by a fault.
 pub fn reset(b: &mut Bank)
-    ensures { Becomes b resetOf }
+    ensures { Becomes b reset_of }
 {
     b[SHAD] = b[PSW];
     b[PSW] = 0;

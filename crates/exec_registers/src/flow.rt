@@ -3,7 +3,7 @@ ghost use Rattle.std.specs.Prelude.{◌≡◌, []};
 ghost use Rattle.machine.specs.Status.{cpu};
 ghost use Rattle.datapath.specs.Clauses.{Becomes};
 ghost use Rattle.exec_spec.specs.Operands.{stack_address};
-ghost use Rattle.exec_spec.specs.Control.{jumped as jumpedOf, next_pc, pc_advanced as advancedOf, with_csp, released as releasedOf};
+ghost use Rattle.exec_spec.specs.Control.{jumped as jumped_of, next_pc, pc_advanced as advanced_of, with_csp, released as released_of};
 ghost use Rattle.exec_spec.specs.EventFrames.{restored_csp};
 
 use machine::Bank;
@@ -14,7 +14,7 @@ use word::sums::plus;
 
 // PC at an address, a multiple of two.
 pub fn jumped(b: &mut Bank, a: u32)
-    ensures { Becomes b (λ c. jumpedOf c a) }
+    ensures { Becomes b (λ c. jumped_of c a) }
 {
     b[PC] = clear_low(a, 1);
 }
@@ -27,7 +27,7 @@ pub fn next_pc(b: &Bank, n: u32) -> u32
 }
 
 pub fn advance_pc(b: &mut Bank, n: u32)
-    ensures { Becomes b (λ c. advancedOf c n) }
+    ensures { Becomes b (λ c. advanced_of c n) }
 {
     b[PC] = next_pc(b, n);
 }
@@ -69,7 +69,7 @@ pub fn stack_address(b: &Bank, v: u32) -> u32
 
 // POPN and RETURN: the stack pointer goes up by v, and MSP with it where it must.
 pub fn released(b: &mut Bank, v: u32)
-    ensures { Becomes b (λ c. releasedOf c v) }
+    ensures { Becomes b (λ c. released_of c v) }
 {
     let a = clear_low(stack_address(b, v), 4);
     if sp_current(b) & (!cache_on(b) | (b[MSP] < a)) {

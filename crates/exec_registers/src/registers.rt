@@ -3,7 +3,7 @@ ghost use Rattle.std.specs.Prelude.{◌≡◌, length};
 ghost use Rattle.machine.specs.Registers.{sp, isp, msp};
 ghost use Rattle.machine.specs.Status.{with};
 ghost use Rattle.datapath.specs.Clauses.{Becomes};
-ghost use Rattle.exec_spec.specs.Operands.{shadowed as shadowedOf, write_register};
+ghost use Rattle.exec_spec.specs.Operands.{shadowed as shadowed_of, write_register};
 
 use machine::Bank;
 use machine::places::{BANK_WORDS, ID_PLACE, ISP, ISP_PLACE, MSP, SHAD, SP, SP_PLACE};
@@ -32,7 +32,7 @@ pub fn put(b: &mut Bank, k: u32, v: u32)
 
 // SHAD follows the current stack pointer.
 fn shadowed(b: &mut Bank, k: u32, v: u32)
-    ensures { Becomes b (λ c. shadowedOf c k v) }
+    ensures { Becomes b (λ c. shadowed_of c k v) }
 {
     if k == csp(b) {
         b[SHAD] = v;
@@ -41,7 +41,7 @@ fn shadowed(b: &mut Bank, k: u32, v: u32)
 
 // SP, and MSP with it.
 fn write_sp(b: &mut Bank, v: u32)
-    ensures { Becomes b (λ c. shadowedOf (with (with c sp v) msp v) sp v) }
+    ensures { Becomes b (λ c. shadowed_of (with (with c sp v) msp v) sp v) }
 {
     b[SP] = v;
     b[MSP] = v;
@@ -49,7 +49,7 @@ fn write_sp(b: &mut Bank, v: u32)
 }
 
 fn write_isp(b: &mut Bank, v: u32)
-    ensures { Becomes b (λ c. shadowedOf (with c isp v) isp v) }
+    ensures { Becomes b (λ c. shadowed_of (with c isp v) isp v) }
 {
     b[ISP] = v;
     shadowed(b, ISP_PLACE, v);

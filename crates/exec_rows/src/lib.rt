@@ -1,3 +1,4 @@
+#![tactic(auto)]
 // What each row of the encodings lists does, and each instruction, without its encoding.
 pub mod forms;
 
@@ -5,7 +6,7 @@ use exec_spec::{Monadic, Niladic, Task};
 use isa::{Mode, MonadicMode, Operand, Wide};
 
 // What a one-parcel row does, with the modes of source and destination, or of its one operand.
-#[derive(Drop)]
+#[derive(Clone, Copy)]
 pub enum ShortForm {
     Two(Task, Mode, Mode),
     One(Monadic, MonadicMode),
@@ -13,7 +14,7 @@ pub enum ShortForm {
 }
 
 // What an instruction does: a task with two operands, or with one, or with none.
-#[derive(Drop)]
+#[derive(Clone, Copy)]
 pub enum Action {
     Two(Wide, Task, Operand, Operand),
     One(Monadic, MonadicMode, u32),

@@ -1,7 +1,8 @@
+#![tactic(auto)]
 // No code: every instruction of section 3.3 as a program of accesses. The types name its parts.
 
 // What an instruction of two operands computes.
-#[derive(Drop)]
+#[derive(Clone, Copy)]
 pub enum Operation {
     Add,
     Sub,
@@ -19,7 +20,7 @@ pub enum Operation {
 }
 
 // What a comparison tests.
-#[derive(Drop)]
+#[derive(Clone, Copy)]
 pub enum Relation {
     Equal,
     Greater,
@@ -28,7 +29,7 @@ pub enum Relation {
 
 // What is done with two operands: a result to the destination, to the accumulator, or interlocked to both; or one of
 // the instructions that have a page of their own.
-#[derive(Drop)]
+#[derive(Clone, Copy)]
 pub enum Task {
     Compute(Operation),
     Accumulate(Operation),
@@ -42,7 +43,7 @@ pub enum Task {
 }
 
 // What is done with one operand.
-#[derive(Drop)]
+#[derive(Clone, Copy)]
 pub enum Monadic {
     Kcall,
     Call,
@@ -58,7 +59,7 @@ pub enum Monadic {
 }
 
 // What is done with none.
-#[derive(Drop)]
+#[derive(Clone, Copy)]
 pub enum Niladic {
     Kret,
     Cret,

@@ -4,7 +4,7 @@ ghost use Rattle.access.specs.Followed.{regime_for};
 ghost use Rattle.machine.specs.Status.{sp_current};
 ghost use Rattle.datapath.specs.Parts.{done};
 ghost use Rattle.datapath.specs.Clauses.{Ends};
-ghost use Rattle.exec_spec.specs.Stack.{catch_to, catch_current, catch as catchOf};
+ghost use Rattle.exec_spec.specs.Stack.{catch_to, catch_current, catch as catch_of};
 
 use crate::targets::{check_msp, stack_target};
 use access_spec::Journal;
@@ -97,7 +97,7 @@ pub fn catch(
     v: u32,
     n: u32,
 ) -> u64
-    ensures { Ends result m journal q r (λ c. catchOf c mode v n) }
+    ensures { Ends result m journal q r (λ c. catch_of c mode v n) }
 {
     let x = catch_held(m, journal, q, r, mode, v);
     if EXCEPTION <= x {

@@ -1,7 +1,8 @@
 // ENTER.
 ghost use Rattle.std.specs.Prelude.{◌≡◌};
+ghost use Rattle.access_spec.specs.Clauses.{only_read};
 ghost use Rattle.datapath.specs.Clauses.{Ends, EndsReadOnly};
-ghost use Rattle.exec_spec.specs.Stack.{enter_plain, enter_uncached, enter_empty, enter_offset, enter_at, clipped as clippedOf, enter as enterOf, enter_clipped};
+ghost use Rattle.exec_spec.specs.Stack.{enter_plain, enter_uncached, enter_empty, enter_offset, enter_at, clipped as clipped_of, enter as enter_of, enter_clipped};
 
 use crate::targets::{check_msp, check_target, stack_target};
 use access_spec::Journal;
@@ -19,7 +20,7 @@ use word::sums::{minus, plus};
 
 // The interrupt stack is current: nothing is moved.
 fn enter_plain(m: &[u8], r: &mut Bank, target: u32) -> u64
-    ensures { EndsReadOnly result m r (λ c. enter_plain c target) }
+    ensures { EndsReadOnly result m.now r (λ c. enter_plain c target) }
 {
     let x = check_target(m, r, target);
     if EXCEPTION <= x {
@@ -31,7 +32,7 @@ fn enter_plain(m: &[u8], r: &mut Bank, target: u32) -> u64
 
 // The cache is off, or empty.
 fn enter_uncached(m: &[u8], r: &mut Bank, target: u32) -> u64
-    ensures { EndsReadOnly result m r (λ c. enter_uncached c target) }
+    ensures { EndsReadOnly result m.now r (λ c. enter_uncached c target) }
 {
     let x = check_target(m, r, target);
     if EXCEPTION <= x {
@@ -44,7 +45,7 @@ fn enter_uncached(m: &[u8], r: &mut Bank, target: u32) -> u64
 
 // All is flushed.
 fn enter_empty(m: &mut [u8], journal: &mut Journal, q: &Quads, r: &mut Bank, target: u32) -> u64
-    ensures { Ends result m journal q r (λ c. enter_empty c target) }
+    ensures { Ends result m journal (only_read q) r (λ c. enter_empty c target) }
 {
     let x = flush(m, journal, q, r, true, target);
     if EXCEPTION <= x {
@@ -55,7 +56,7 @@ fn enter_empty(m: &mut [u8], journal: &mut Journal, q: &Quads, r: &mut Bank, tar
 
 // MSP after ENTER by a stack offset: at most the cache's size above the target.
 fn clipped(old: u32, msp: u32, target: u32) -> u32
-    ensures { result ≡ clippedOf old msp target }
+    ensures { result ≡ clipped_of old msp target }
 {
     if STACK_CACHE_BYTES < minus(old, target) {
         let top = plus(target, STACK_CACHE_BYTES);
@@ -67,7 +68,7 @@ fn clipped(old: u32, msp: u32, target: u32) -> u32
 
 // Both pointers are checked, then set; old is MSP before the flush.
 fn enter_clipped(m: &[u8], r: &mut Bank, target: u32, old: u32) -> u64
-    ensures { EndsReadOnly result m r (λ c. enter_clipped c target old) }
+    ensures { EndsReadOnly result m.now r (λ c. enter_clipped c target old) }
 {
     let new = clipped(old, r[MSP], target);
     let x = check_target(m, r, target);
@@ -88,7 +89,7 @@ fn enter_clipped(m: &[u8], r: &mut Bank, target: u32, old: u32) -> u64
 
 // Only what is too much is flushed.
 fn enter_offset(m: &mut [u8], journal: &mut Journal, q: &Quads, r: &mut Bank, target: u32) -> u64
-    ensures { Ends result m journal q r (λ c. enter_offset c target) }
+    ensures { Ends result m journal (only_read q) r (λ c. enter_offset c target) }
 {
     let old = r[MSP];
     let x = flush(m, journal, q, r, false, target);
@@ -106,7 +107,7 @@ fn enter_at(
     mode: MonadicMode,
     target: u32,
 ) -> u64
-    ensures { Ends result m journal q r (λ c. enter_at c mode target) }
+    ensures { Ends result m journal (only_read q) r (λ c. enter_at c mode target) }
 {
     if sp_current(r) {
         if cache_on(r) {
@@ -133,7 +134,7 @@ pub fn enter(
     v: u32,
     n: u32,
 ) -> u64
-    ensures { Ends result m journal q r (λ c. enterOf c mode v n) }
+    ensures { Ends result m journal (only_read q) r (λ c. enter_of c mode v n) }
 {
     let x = stack_target(m, journal, q, r, mode, v);
     if EXCEPTION <= x {

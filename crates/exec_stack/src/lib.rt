@@ -1,3 +1,4 @@
+#![tactic(auto)]
 // ENTER, CATCH and CRET, which flush and fill the stack cache.
 pub mod catches;
 pub mod enters;

@@ -1,6 +1,6 @@
 // CRET. A fault of the frame resets: its answer is 2^32.
 ghost use Rattle.datapath.specs.Clauses.{Ends};
-ghost use Rattle.exec_spec.specs.EventFrames.{cret_fill, cret as cretOf, cret_caught, cret_from, cret_after};
+ghost use Rattle.exec_spec.specs.EventFrames.{cret_fill, cret as cret_of, cret_caught, cret_from, cret_after};
 
 use crate::catches::catch_to;
 use access_spec::Journal;
@@ -114,7 +114,7 @@ fn cret_after(
 
 // At kernel level; at user level it is exception 5.
 pub fn cret(m: &mut [u8], journal: &mut Journal, q: &mut Quads, r: &mut Bank) -> u64
-    ensures { Ends result m journal q r cretOf }
+    ensures { Ends result m journal q r cret_of }
 {
     let i = r[ISP];
     let x = read_frame(m, journal, r, i);

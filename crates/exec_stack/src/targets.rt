@@ -1,5 +1,6 @@
 // Where ENTER and CATCH go, and the checks that stores are valid there. A fault leaves its address.
 ghost use Rattle.access_spec.specs.Access.{probe as probes};
+ghost use Rattle.access_spec.specs.Clauses.{only_read};
 ghost use Rattle.access.specs.Followed.{regime_for};
 ghost use Rattle.datapath.specs.Parts.{request};
 ghost use Rattle.datapath.specs.Data.{check_store};
@@ -26,7 +27,7 @@ pub fn stack_target(
     mode: MonadicMode,
     v: u32,
 ) -> u64
-    ensures { Yields result m journal q r (λ c. stack_target c mode v) }
+    ensures { Yields result m journal (only_read q) r (λ c. stack_target c mode v) }
 {
     match mode {
         MonadicMode::WordAbsolute => load(m, journal, q, r, Width::Word, v),
@@ -42,7 +43,7 @@ pub fn stack_target(
 
 // Whether stores at a are valid, in a regime given by its numbers.
 fn check(m: &[u8], r: &mut Bank, stb: u32, user: bool, translated: bool, a: u32) -> u64
-    ensures { YieldsReadOnly result m r (λ c. request c (probes (regime_for stb user translated) a) a) }
+    ensures { YieldsReadOnly result m.now r (λ c. request c (probes (regime_for stb user translated) a) a) }
 {
     let x = access::accesses::probe(m, stb, user, translated, a);
     if EXCEPTION <= x {
@@ -54,7 +55,7 @@ fn check(m: &[u8], r: &mut Bank, stb: u32, user: bool, translated: bool, a: u32)
 
 // The same at the current level.
 pub fn check_target(m: &[u8], r: &mut Bank, a: u32) -> u64
-    ensures { YieldsReadOnly result m r (λ c. check_store c a) }
+    ensures { YieldsReadOnly result m.now r (λ c. check_store c a) }
 {
     let stb = r[STB];
     let user = is_user(r);
@@ -72,7 +73,7 @@ pub fn check_msp(
     old: u32,
     new: u32,
 ) -> u64
-    ensures { YieldsReadOnly result m r (λ c. check_msp c (regime_for stb user translated) old new) }
+    ensures { YieldsReadOnly result m.now r (λ c. check_msp c (regime_for stb user translated) old new) }
 {
     if new == old {
         good(0)

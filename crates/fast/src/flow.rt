@@ -1,10 +1,10 @@
 // Jumps, and calls, returns, ENTER and CATCH that move no word between cache and memory.
 ghost use Rattle.std.specs.Prelude.{◌≡◌, true, false};
-ghost use Rattle.access_spec.specs.Clauses.{unchanged, IfElse};
+ghost use Rattle.access_spec.specs.Clauses.{only_read, unchanged, IfElse};
 ghost use Rattle.datapath.specs.Parts.{done};
 ghost use Rattle.datapath.specs.Clauses.{entry_cpu, exit_cpu, Becomes};
-ghost use Rattle.exec_spec.specs.Control.{jump as jumpOf, jump_if, call as call_of, return as returnOf, released as releasedOf, pc_advanced as advancedOf};
-ghost use Rattle.exec_spec.specs.Stack.{enter as enterOf, catch as catchOf};
+ghost use Rattle.exec_spec.specs.Control.{jump as jump_of, jump_if, call as call_of, return as return_of, released as released_of, pc_advanced as advanced_of};
+ghost use Rattle.exec_spec.specs.Stack.{enter as enter_of, catch as catch_of};
 ghost use Rattle.exec_spec.specs.Execute.{one_operand, execute_monadic};
 ghost use Rattle.step_spec.specs.Step.{holds_stack};
 ghost use Rattle.run_spec.specs.Run.{is_kcall};
@@ -48,7 +48,7 @@ fn is_relative(m: MonadicMode) -> bool
 
 // JMP.
 fn jump(r: &mut Bank, mode: MonadicMode, v: u32) -> bool
-    ensures { IfElse result (DoneAnyCache r (λ c. jumpOf c mode v) × StackAsBeforeAnyCache r) (unchanged r) }
+    ensures { IfElse result (DoneAnyCache r (λ c. jump_of c mode v) × StackAsBeforeAnyCache r) (unchanged r) }
 {
     if is_relative(mode) {
         let a = plus(r[PC], v);
@@ -91,7 +91,7 @@ fn call(q: &mut Quads, r: &mut Bank, mode: MonadicMode, v: u32, n: u32) -> bool
 
 // RETURN; one that would lose its stack is left to the step that refuses it.
 fn return_from(m: &[u8], q: &Quads, r: &mut Bank, v: u32) -> bool
-    ensures { IfElse result (Gives m q r (λ c. returnOf c v) × (holds_stack (exit_cpu q r) ≡ true)) (unchanged r) }
+    ensures { IfElse result (Gives (only_read m) (only_read q) r (λ c. return_of c v) × (holds_stack (exit_cpu (only_read q) r) ≡ true)) (unchanged r) }
 {
     let kept = *r;
     let a = stack_address(r, v);
@@ -109,7 +109,7 @@ fn return_from(m: &[u8], q: &Quads, r: &mut Bank, v: u32) -> bool
 
 // POPN, likewise.
 fn pop(r: &mut Bank, v: u32, n: u32) -> bool
-    ensures { IfElse result (Becomes r (λ c. advancedOf (releasedOf c v) n) × StackHeldAnyCache r) (unchanged r) }
+    ensures { IfElse result (Becomes r (λ c. advanced_of (released_of c v) n) × StackHeldAnyCache r) (unchanged r) }
 {
     let kept = *r;
     released(r, v);
@@ -123,7 +123,7 @@ fn pop(r: &mut Bank, v: u32, n: u32) -> bool
 
 // CATCH whose words the cache holds already: nothing is filled.
 fn catch(r: &mut Bank, mode: MonadicMode, v: u32, n: u32) -> bool
-    ensures { IfElse result (DoneAnyCache r (λ c. catchOf c mode v n) × StackAsBeforeAnyCache r) (unchanged r) }
+    ensures { IfElse result (DoneAnyCache r (λ c. catch_of c mode v n) × StackAsBeforeAnyCache r) (unchanged r) }
 {
     if !is_stack(mode) {
         return false;
@@ -140,7 +140,7 @@ fn catch(r: &mut Bank, mode: MonadicMode, v: u32, n: u32) -> bool
 
 // ENTER with room in the cache: nothing is flushed, and the target is checked.
 fn enter(m: &[u8], r: &mut Bank, mode: MonadicMode, v: u32, n: u32) -> bool
-    ensures { IfElse result (GivesAnyCache m r (λ c. enterOf c mode v n) × StackHeldAnyCache r) (unchanged r) }
+    ensures { IfElse result (GivesAnyCache (only_read m) r (λ c. enter_of c mode v n) × StackHeldAnyCache r) (unchanged r) }
 {
     if !is_stack(mode) {
         return false;
@@ -177,7 +177,7 @@ pub(crate) fn fast_one(
     n: u32,
 ) -> bool
     ensures { IfElse result
-        (Gives m q r (λ c. execute_monadic c o mode v n) × (is_kcall (one_operand o mode v) ≡ false)
+        (Gives (only_read m) q r (λ c. execute_monadic c o mode v n) × (is_kcall (one_operand o mode v) ≡ false)
         × (holds_stack (entry_cpu q r) ≡ true → holds_stack (exit_cpu q r) ≡ true))
         (unchanged r × unchanged q) }
 {

@@ -22,8 +22,8 @@ abbrev pub Gives : Lent Memory → Lent Cache → Lent Bank → (Cpu → Program
 Gives m q r f = gives (f (entry_cpu q r)) m.entry.now (exit_cpu q r) m.exit.now
 
 -- the program p gives a, and leaves memory as it is
-abbrev pub GivesReadOnly : {A : Type 0} → A → Lent Memory → Program (Out A) → Type 0
-GivesReadOnly a m p = gives p m.entry.now a m.entry.now
+abbrev pub GivesReadOnly : {A : Type 0} → A → Memory → Program (Out A) → Type 0
+GivesReadOnly a m p = gives p m a m
 
 -- the machine that is left holds its stack just where the one that was lent did
 abbrev pub StackAsBefore : Lent Cache → Lent Bank → Type 0

@@ -2,7 +2,7 @@
 ghost use Rattle.std.specs.Prelude.{◌≡◌, ◌^◌, ◌<◌};
 ghost use Rattle.memory.specs.Answers.{good};
 ghost use Rattle.access_spec.specs.Access.{response, access, read as reads, write as writes};
-ghost use Rattle.access_spec.specs.Clauses.{unchanged, IfElse};
+ghost use Rattle.access_spec.specs.Clauses.{only_read, unchanged, IfElse};
 ghost use Rattle.machine.specs.Status.{regime};
 ghost use Rattle.datapath.specs.Data.{read_data, write_data};
 ghost use Rattle.datapath.specs.Clauses.{entry_cpu};
@@ -38,7 +38,7 @@ fn memory_read(m: &[u8], r: &Bank, w: Width, p: u32) -> u64
 
 // An operand as an unsigned number; 2^32 or more where the access does not go.
 pub fn fast_read(m: &[u8], q: &Quads, r: &Bank, w: Width, a: u32) -> u64
-    ensures { result < 2 ^ 32 → GivesReadOnly result m (read_data (entry_cpu q r) w a) }
+    ensures { result < 2 ^ 32 → GivesReadOnly result m.now (read_data (entry_cpu (only_read q) (only_read r)) w a) }
 {
     let p = place(is_little(r), w, a);
     if !cached(r, a) {
@@ -70,7 +70,7 @@ fn memory_store(m: &mut [u8], r: &Bank, w: Width, p: u32, v: u32) -> bool
 
 // The low bytes of v to an operand, if the access goes.
 pub(crate) fn fast_store(m: &mut [u8], q: &mut Quads, r: &Bank, w: Width, a: u32, v: u32) -> bool
-    ensures { IfElse result (Gives m q r (λ c. write_data c w a v)) (unchanged m × unchanged q) }
+    ensures { IfElse result (Gives m q (only_read r) (λ c. write_data c w a v)) (unchanged m × unchanged q) }
 {
     let p = place(is_little(r), w, a);
     if !cached(r, a) {

@@ -1,7 +1,7 @@
 // What is left of an instruction of two operands once its source is read, the destination anywhere in memory.
 ghost use Rattle.std.specs.Prelude.{◌≡◌, true};
 ghost use Rattle.isa.specs.declared.Operand.TheVariants as operand;
-ghost use Rattle.access_spec.specs.Clauses.{unchanged, IfElse};
+ghost use Rattle.access_spec.specs.Clauses.{only_read, unchanged, IfElse};
 ghost use Rattle.exec_spec.specs.Operands.{mode_kind};
 ghost use Rattle.exec_operands.specs.Code.{general_at};
 ghost use Rattle.fast_dyadic.specs.Fast.{is_fast, compute_at, accumulate_at, compare_at, after_source};
@@ -91,7 +91,7 @@ fn compare_at(
     a: u32,
     x: u32,
 ) -> bool
-    ensures { IfElse result (Gives m q r (λ c. compare_at c relation (general_at (mode_kind mode) mode d a) x) × StackAsBefore q r) (unchanged r) }
+    ensures { IfElse result (Gives (only_read m) (only_read q) r (λ c. compare_at c relation (general_at (mode_kind mode) mode d a) x) × StackAsBefore (only_read q) r) (unchanged r) }
 {
     let y = fast_value(m, q, r, mode, d, a);
     if NOT_TAKEN <= y {

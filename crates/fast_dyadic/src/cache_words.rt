@@ -2,8 +2,8 @@
 ghost use Rattle.std.specs.Prelude.{◌≡◌, true, [], ◌%◌, ◌^◌, ◌<◌};
 ghost use Rattle.isa.specs.declared.Operand.TheVariants as operand;
 ghost use Rattle.isa.specs.declared.Wide.{Wide};
-ghost use Rattle.access_spec.specs.Clauses.{unchanged, IfElse};
-ghost use Rattle.machine.specs.Status.{cpu, cached as cachedOf};
+ghost use Rattle.access_spec.specs.Clauses.{only_read, unchanged, IfElse};
+ghost use Rattle.machine.specs.Status.{cpu, cached as cached_of};
 ghost use Rattle.datapath.specs.Parts.{done};
 ghost use Rattle.datapath.specs.Clauses.{entry_cpu};
 ghost use Rattle.exec_spec.specs.declared.Task.TheVariants as task;
@@ -28,7 +28,7 @@ use word::Width;
 
 // The address of the word at a stack offset, if the cache holds it; else 2^32.
 pub(crate) fn cached_address(r: &Bank, v: u32) -> u64
-    ensures { result < 2 ^ 32 → (result ≡ stack_address (cpu r.now []) v) × (cachedOf r.now result ≡ true) × (result % 4 ≡ 0) }
+    ensures { result < 2 ^ 32 → (result ≡ stack_address (cpu r.now []) v) × (cached_of r.now result ≡ true) × (result % 4 ≡ 0) }
 {
     let a = stack_address(r, v);
     if cached(r, a) {
@@ -64,7 +64,7 @@ pub(crate) fn is_stack_word(m: Mode) -> bool
 
 // A source that is a constant or such a word; else 2^32.
 pub(crate) fn cached_source(q: &Quads, r: &Bank, m: Mode, v: u32) -> u64
-    ensures { result < 2 ^ 32 → (w : Wide) → read_operand (entry_cpu q r) w (operand.General m v) ≡ done result }
+    ensures { result < 2 ^ 32 → (w : Wide) → read_operand (entry_cpu (only_read q) (only_read r)) w (operand.General m v) ≡ done result }
 {
     if is_constant(m) {
         return good(v);
@@ -80,7 +80,7 @@ pub(crate) fn cached_source(q: &Quads, r: &Bank, m: Mode, v: u32) -> u64
 
 // ADD and its kind, to the word at a: the result goes there.
 fn cached_compute(q: &mut Quads, r: &mut Bank, op: Operation, a: u32, x: u32) -> bool
-    requires { (cachedOf r.old a ≡ true) × (a % 4 ≡ 0) }
+    requires { (cached_of r.old a ≡ true) × (a % 4 ≡ 0) }
     ensures { IfElse result (AfterSourceDone (task.Compute op) a x q r × StackAsBefore q r) (unchanged r × unchanged q) }
 {
     if divides(op) & (x == 0) {
@@ -95,7 +95,7 @@ fn cached_compute(q: &mut Quads, r: &mut Bank, op: Operation, a: u32, x: u32) ->
 
 // ADD3 and its kind: the result goes to the accumulator.
 fn cached_accumulate(q: &mut Quads, r: &mut Bank, op: Operation, a: u32, x: u32) -> bool
-    requires { (cachedOf r.old a ≡ true) × (a % 4 ≡ 0) }
+    requires { (cached_of r.old a ≡ true) × (a % 4 ≡ 0) }
     ensures { IfElse result (AfterSourceDone (task.Accumulate op) a x q r × StackAsBefore q r) (unchanged r × unchanged q) }
 {
     if divides(op) & (x == 0) {
@@ -114,8 +114,8 @@ fn cached_accumulate(q: &mut Quads, r: &mut Bank, op: Operation, a: u32, x: u32)
 
 // CMP.
 fn cached_compare(q: &Quads, r: &mut Bank, relation: Relation, a: u32, x: u32)
-    requires { (cachedOf r.old a ≡ true) × (a % 4 ≡ 0) }
-    ensures { AfterSourceDone (task.Compare relation) a x q r × StackAsBefore q r }
+    requires { (cached_of r.old a ≡ true) × (a % 4 ≡ 0) }
+    ensures { AfterSourceDone (task.Compare relation) a x (only_read q) r × StackAsBefore (only_read q) r }
 {
     let y = cache_read(Width::Word, q, a);
     with_flag(r, related(relation, x, y));
@@ -123,7 +123,7 @@ fn cached_compare(q: &Quads, r: &mut Bank, relation: Relation, a: u32, x: u32)
 
 // What is left of a task with the source x, the destination such a word, at a.
 pub(crate) fn cached_finish(q: &mut Quads, r: &mut Bank, t: Task, a: u32, x: u32) -> bool
-    requires { (cachedOf r.old a ≡ true) × (a % 4 ≡ 0) }
+    requires { (cached_of r.old a ≡ true) × (a % 4 ≡ 0) }
     ensures { IfElse result ((is_fast t ≡ true) × AfterSourceDone t a x q r × StackAsBefore q r) (unchanged r × unchanged q) }
 {
     match t {

@@ -1,3 +1,4 @@
+#![tactic(auto)]
 // Instructions of two operands whose accesses neither fault nor set a bit: they need no journal and no copy, since nothing has
 // to be put back. Each function answers whether it went; where it did not, all is as it was.
 pub mod accesses;

@@ -1,7 +1,7 @@
 // Operands that are no registers, where no access to them faults or sets a bit.
 ghost use Rattle.std.specs.Prelude.{◌^◌, ◌<◌};
 ghost use Rattle.isa.specs.declared.Operand.TheVariants as operand;
-ghost use Rattle.access_spec.specs.Clauses.{unchanged, IfElse};
+ghost use Rattle.access_spec.specs.Clauses.{only_read, unchanged, IfElse};
 ghost use Rattle.datapath.specs.Clauses.{entry_cpu};
 ghost use Rattle.exec_spec.specs.Operands.{mode_kind, locate, read_place, write_place};
 ghost use Rattle.exec_operands.specs.Code.{general_at, place_at};
@@ -21,7 +21,7 @@ use word::Width;
 
 // The address of an operand; 2^32 or more where its indirection word is not read.
 pub(crate) fn fast_address(m: &[u8], q: &Quads, r: &Bank, wide: Wide, mode: Mode, v: u32) -> u64
-    ensures { result < 2 ^ 32 → GivesReadOnly (place_at (operand.General mode v) result) m (locate (entry_cpu q r) wide (operand.General mode v)) }
+    ensures { result < 2 ^ 32 → GivesReadOnly (place_at (operand.General mode v) result) m.now (locate (entry_cpu (only_read q) (only_read r)) wide (operand.General mode v)) }
 {
     let k = mode_kind(mode);
     match k {
@@ -37,7 +37,7 @@ pub(crate) fn fast_address(m: &[u8], q: &Quads, r: &Bank, wide: Wide, mode: Mode
 
 // An operand found at a, at 32 bits; 2^32 or more where it is not read.
 pub(crate) fn fast_value(m: &[u8], q: &Quads, r: &Bank, mode: Mode, v: u32, a: u32) -> u64
-    ensures { result < 2 ^ 32 → GivesReadOnly result m (read_place (entry_cpu q r) (general_at (mode_kind mode) mode v a)) }
+    ensures { result < 2 ^ 32 → GivesReadOnly result m.now (read_place (entry_cpu (only_read q) (only_read r)) (general_at (mode_kind mode) mode v a)) }
 {
     if is_constant(mode) {
         return good(v);
@@ -59,7 +59,7 @@ pub(crate) fn fast_put(
     a: u32,
     v: u32,
 ) -> bool
-    ensures { IfElse result (Gives m q r (λ c. write_place c (general_at (mode_kind mode) mode held a) v)) (unchanged m × unchanged q) }
+    ensures { IfElse result (Gives m q (only_read r) (λ c. write_place c (general_at (mode_kind mode) mode held a) v)) (unchanged m × unchanged q) }
 {
     if is_constant(mode) {
         return true;

@@ -1,7 +1,7 @@
 // Instructions of two operands, neither of them a register.
 ghost use Rattle.std.specs.Prelude.{◌≡◌, true, ◌^◌, ◌<◌};
 ghost use Rattle.isa.specs.declared.Operand.TheVariants as operand;
-ghost use Rattle.access_spec.specs.Clauses.{IfElse};
+ghost use Rattle.access_spec.specs.Clauses.{only_read, IfElse};
 ghost use Rattle.datapath.specs.Clauses.{entry_cpu};
 ghost use Rattle.exec_spec.specs.Operands.{read_operand};
 ghost use Rattle.exec_spec.specs.Execute.{two_operands, execute_normal};
@@ -21,7 +21,7 @@ use memory::answers::low32;
 
 // A source anywhere in memory; 2^32 or more where it is not read.
 fn memory_source(m: &[u8], q: &Quads, r: &Bank, wide: Wide, mode: Mode, v: u32) -> u64
-    ensures { result < 2 ^ 32 → GivesReadOnly result m (read_operand (entry_cpu q r) wide (operand.General mode v)) }
+    ensures { result < 2 ^ 32 → GivesReadOnly result m.now (read_operand (entry_cpu (only_read q) (only_read r)) wide (operand.General mode v)) }
 {
     let k = fast_address(m, q, r, wide, mode, v);
     if NOWHERE <= k {
@@ -32,7 +32,7 @@ fn memory_source(m: &[u8], q: &Quads, r: &Bank, wide: Wide, mode: Mode, v: u32) 
 
 // The source's value; 2^32 or more where it is not read.
 fn source(m: &[u8], q: &Quads, r: &Bank, wide: Wide, mode: Mode, v: u32) -> u64
-    ensures { result < 2 ^ 32 → GivesReadOnly result m (read_operand (entry_cpu q r) wide (operand.General mode v)) }
+    ensures { result < 2 ^ 32 → GivesReadOnly result m.now (read_operand (entry_cpu (only_read q) (only_read r)) wide (operand.General mode v)) }
 {
     let x = cached_source(q, r, mode, v);
     if x < NOT_TAKEN {

@@ -1,3 +1,4 @@
+#![tactic(auto)]
 // Upper-case hexadecimal digits of a number, into a lent buffer.
 ghost use Rattle.std.specs.Prelude.{◌≡◌, ◌+◌, ◌%◌, ◌≤◌, length};
 ghost use Rattle.hex_digits.specs.Digits.{digit_byte, digits};

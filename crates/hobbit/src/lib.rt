@@ -1,3 +1,4 @@
+#![tactic(auto)]
 // The C interface: calls over memory and blocks of words that the caller lends (include/hobbit.h says what each does).
 // Here: the machine; in `bytes` its memory; in `texts` decoding and encoding.
 pub mod bytes;
@@ -29,7 +30,7 @@ pub extern "C" fn hobbit_interface() -> u32
 
 // What an 83 line carries but PC and PSW, which are words of the registers.
 #[repr(C)]
-#[derive(Drop)]
+#[derive(Clone, Copy)]
 pub struct HobbitAnswer {
     pub steps: u32,
     pub stop: u32,
@@ -94,7 +95,7 @@ pub extern "C" fn hobbit_set(registers: &mut [u32; 17], place: u32, value: u32) 
 
 // A register read: 0 and its word, or refusal 2 and 0.
 #[repr(C)]
-#[derive(Drop)]
+#[derive(Clone, Copy)]
 pub struct HobbitWord {
     pub refusal: u32,
     pub value: u32,

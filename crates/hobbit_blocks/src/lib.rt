@@ -1,3 +1,4 @@
+#![tactic(auto)]
 // Instructions as blocks of eight words (specs/Numbering.antt), for callers that have no enumerations: parcels decoded into
 // a block, and encoded from one.
 mod blocks;

@@ -1,1 +1,2 @@
+#![tactic(auto)]
 // No code: what every program of the instruction set asks for and leaves.

@@ -1,3 +1,4 @@
+#![tactic(auto)]
 // The instruction set as data: rows of the encodings lists, operand modes, instructions and answers.
 // What these mean is defined in specs/; the crates decode_tables, decode, encode_tables and encode are the code.
 pub mod fields;
@@ -5,7 +6,7 @@ pub mod lengths;
 
 // A line of the encodings lists (section 3.3) at length 2: one parcel. The lines of CPU and FLUSHD are
 // no rows: the one is the `prefix` of another instruction, the other is unimplemented by its own page.
-#[derive(Drop)]
+#[derive(Clone, Copy)]
 pub enum ShortRow {
     Kcall,
     Call,
@@ -49,7 +50,7 @@ pub enum ShortRow {
 }
 
 // A pair of lines at lengths 6 and 10 with two operands: which of the two, its form says.
-#[derive(Drop)]
+#[derive(Clone, Copy)]
 pub enum DyadicRow {
     Ori,
     Andi,
@@ -89,7 +90,7 @@ pub enum DyadicRow {
 }
 
 // A line at length 6 with one operand. FLUSHDCE is no row: it is unimplemented by its own page.
-#[derive(Drop)]
+#[derive(Clone, Copy)]
 pub enum MonadicRow {
     Kcall,
     Call,
@@ -108,7 +109,7 @@ pub enum MonadicRow {
 }
 
 // Operand fields of one parcel (Table 3-2). Fill8 is the stk8 of ENTER, which is filled with ones.
-#[derive(Drop)]
+#[derive(Clone, Copy)]
 pub enum FieldMode {
     Absent,
     Imm5,
@@ -123,7 +124,7 @@ pub enum FieldMode {
 }
 
 // Table 1-21.
-#[derive(Drop)]
+#[derive(Clone, Copy)]
 pub enum Mode {
     AbsoluteByte,
     AbsoluteUbyte,
@@ -144,7 +145,7 @@ pub enum Mode {
 }
 
 // The word modes of Table 1-21 and the modes of Table 1-23, for an operand of 32 bits.
-#[derive(Drop)]
+#[derive(Clone, Copy)]
 pub enum MonadicMode {
     WordAbsolute,
     WordStack,
@@ -157,27 +158,27 @@ pub enum MonadicMode {
 }
 
 // An operand of a dyadic: a mode of Table 1-21 with its value, or a register's number in Table 1-24.
-#[derive(Drop)]
+#[derive(Clone, Copy)]
 pub enum Operand {
     General(Mode, u32),
     Register(u32),
 }
 
 // The two long forms.
-#[derive(Drop)]
+#[derive(Clone, Copy)]
 pub enum Wide {
     Three,
     Five,
 }
 
-#[derive(Drop)]
+#[derive(Clone, Copy)]
 pub struct ShortInstruction {
     pub row: ShortRow,
     pub source: u32,
     pub destination: u32,
 }
 
-#[derive(Drop)]
+#[derive(Clone, Copy)]
 pub struct DyadicInstruction {
     pub row: DyadicRow,
     pub wide: Wide,
@@ -186,7 +187,7 @@ pub struct DyadicInstruction {
     pub destination: Operand,
 }
 
-#[derive(Drop)]
+#[derive(Clone, Copy)]
 pub struct MonadicInstruction {
     pub row: MonadicRow,
     pub prefix: bool,
@@ -195,7 +196,7 @@ pub struct MonadicInstruction {
 }
 
 // Only what can be encoded has a place here: one parcel takes no prefix, a monadic has three parcels.
-#[derive(Drop)]
+#[derive(Clone, Copy)]
 pub enum Instruction {
     Short(ShortInstruction),
     Dyadic(DyadicInstruction),
@@ -203,7 +204,7 @@ pub enum Instruction {
 }
 
 // Up to six parcels by value, and how many there are in all: the first are p0, p1 and so on.
-#[derive(Drop)]
+#[derive(Clone, Copy)]
 pub struct Text {
     pub count: usize,
     pub p0: u16,
@@ -216,7 +217,7 @@ pub struct Text {
 
 // What the decoder answers: an instruction with its length in parcels, the prefix counted, or what carries none: illegal;
 // unimplemented, with the offset of its vector, which of a trapped niladic is another (1.11.4); too few parcels.
-#[derive(Drop)]
+#[derive(Clone, Copy)]
 pub enum Decoded {
     Is(Instruction, u32),
     Illegal,
@@ -225,14 +226,14 @@ pub enum Decoded {
 }
 
 // What the encoder answers.
-#[derive(Drop)]
+#[derive(Clone, Copy)]
 pub enum Encoded {
     Parcels(Text),
     NoCode,
 }
 
 // A place of Tables 1-15 to 1-17, with the operand letters of Table 1-15.
-#[derive(Drop)]
+#[derive(Clone, Copy)]
 pub enum ShortEntry {
     Row(ShortRow, FieldMode, FieldMode),
     Stack,
@@ -244,7 +245,7 @@ pub enum ShortEntry {
 }
 
 // Which operands a dyadic may have.
-#[derive(Drop)]
+#[derive(Clone, Copy)]
 pub enum Rule {
     OneRegister,
     AnyTwo,
@@ -253,7 +254,7 @@ pub enum Rule {
 }
 
 // A place of Tables 1-18 and 1-20.
-#[derive(Drop)]
+#[derive(Clone, Copy)]
 pub enum DyadicEntry {
     Row(DyadicRow, Rule),
     Unimplemented,
@@ -261,7 +262,7 @@ pub enum DyadicEntry {
 }
 
 // Which operands a monadic may have: word32, flow32, abs32, stk32 of Table 3-2, and ENTER's word32.
-#[derive(Drop)]
+#[derive(Clone, Copy)]
 pub enum MonadicRule {
     Word,
     Flow,
@@ -271,7 +272,7 @@ pub enum MonadicRule {
 }
 
 // A place of Table 1-19.
-#[derive(Drop)]
+#[derive(Clone, Copy)]
 pub enum MonadicEntry {
     Row(MonadicRow, MonadicRule),
     Unimplemented,
@@ -279,7 +280,7 @@ pub enum MonadicEntry {
 }
 
 // A place of Tables 1-21 and 1-22.
-#[derive(Drop)]
+#[derive(Clone, Copy)]
 pub enum ModeEntry {
     General(Mode),
     Register,
@@ -287,21 +288,21 @@ pub enum ModeEntry {
 }
 
 // An operand field with its mode's number: the operand, or nothing where the mode is in no table.
-#[derive(Drop)]
+#[derive(Clone, Copy)]
 pub enum OperandFound {
     Is(Operand),
     Nothing,
 }
 
 // A place of the four word modes (0xC to 0xF) under a monadic's rule.
-#[derive(Drop)]
+#[derive(Clone, Copy)]
 pub enum MonadicModeEntry {
     Is(MonadicMode),
     Unlisted,
 }
 
 // What the encodings lists say of a one-parcel row: its parcel with no operand bits, its operands.
-#[derive(Drop)]
+#[derive(Clone, Copy)]
 pub struct ShortListed {
     pub base: u32,
     pub source: FieldMode,
@@ -310,7 +311,7 @@ pub struct ShortListed {
 
 // Table 3-2 and the notes of section 3.3: gen with at most one register read, gen where the second
 // operand is only written, MOVA's gen and DQM's gen.
-#[derive(Drop)]
+#[derive(Clone, Copy)]
 pub enum Operands {
     Gen,
     GenWritten,
@@ -318,14 +319,14 @@ pub enum Operands {
     GenMoved,
 }
 
-#[derive(Drop)]
+#[derive(Clone, Copy)]
 pub struct DyadicListed {
     pub opcode: u32,
     pub operands: Operands,
 }
 
 // Table 3-2's classes of 32-bit operands, as the pages of section 3.3 use them.
-#[derive(Drop)]
+#[derive(Clone, Copy)]
 pub enum Single {
     Word32,
     Flow32,
@@ -334,7 +335,7 @@ pub enum Single {
     EnterWord32,
 }
 
-#[derive(Drop)]
+#[derive(Clone, Copy)]
 pub struct MonadicListed {
     pub subcode: u32,
     pub operand: Single,

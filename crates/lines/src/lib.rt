@@ -1,3 +1,4 @@
+#![tactic(auto)]
 // The lines of a text that is read in blocks: where one ends, and what is kept of one that has not ended.
 ghost use Rattle.std.specs.Prelude.{◌≡◌, ◌+◌, ◌≤◌, ◌<◌, leb, length, take, drop};
 ghost use Rattle.lines.specs.Texts.{newline_at};

@@ -1,3 +1,4 @@
+#![tactic(auto)]
 // The machine without its memory: registers, stack cache, what is due.
 pub mod assign;
 pub mod bits;
@@ -13,7 +14,7 @@ pub type Bank = [u32; 17];
 pub type Quads = [[u32; 4]; 16];
 
 // Registers by their place in Table 1-1, less one; the stack cache's sixteen quad-words in one flat array.
-#[derive(Drop)]
+#[derive(Clone, Copy)]
 pub struct Machine {
     pub registers: [u32; 13],
     pub cache: [u32; 64],
@@ -24,7 +25,7 @@ pub struct Machine {
 }
 
 // A register read: 0 and its word, or the refusal and 0.
-#[derive(Drop)]
+#[derive(Clone, Copy)]
 pub struct Reading {
     pub refusal: u32,
     pub value: u32,

@@ -1,6 +1,6 @@
 // The registers: the numbers that name them, the bits that they keep, and when a bank of them is good.
 ghost use Rattle.std.specs.Prelude.{◌≡◌};
-ghost use Rattle.machine.specs.Registers.{register_of, unreserved as kept_of, clean as cleanOf, stack_held, clean_below, good_bank};
+ghost use Rattle.machine.specs.Registers.{register_of, unreserved as kept_of, clean as clean_of, stack_held, clean_below, good_bank};
 ghost use Rattle.machine.specs.Masks.{mask_of};
 
 use crate::Bank;
@@ -59,7 +59,7 @@ pub fn unreserved(k: u32, v: u32) -> u32
 
 // Whether a word has no reserved bit of the register at a place set.
 pub fn clean(k: u32, v: u32) -> bool
-    ensures { result ≡ cleanOf k v }
+    ensures { result ≡ clean_of k v }
 {
     unreserved(k, v) == v
 }

@@ -1,7 +1,7 @@
 // What the bits of PSW (Table 1-8) and CONFIG (Table 1-2) say of a bank.
 ghost use Rattle.std.specs.Prelude.{◌≡◌};
-ghost use Rattle.machine.specs.Status.{is_virtual, is_user, sp_current, csp as cspOf, is_little, cache_on};
-ghost use Rattle.machine.specs.Status.{cached as cachedOf};
+ghost use Rattle.machine.specs.Status.{is_virtual, is_user, sp_current, csp as csp_of, is_little, cache_on};
+ghost use Rattle.machine.specs.Status.{cached as cached_of};
 
 use crate::Bank;
 use crate::bits::{KERNEL_LITTLE, SP_CURRENT, STACK_CACHE, USER_LEVEL, USER_LITTLE, VIRTUAL};
@@ -31,7 +31,7 @@ pub fn sp_current(b: &Bank) -> bool
 
 // The current stack pointer's place in the bank.
 pub fn csp(b: &Bank) -> u32
-    ensures { result ≡ cspOf b.now }
+    ensures { result ≡ csp_of b.now }
 {
     if sp_current(b) { SP_PLACE } else { ISP_PLACE }
 }
@@ -56,7 +56,7 @@ pub fn cache_on(b: &Bank) -> bool
 
 // Whether a data access at an address is to the stack cache.
 pub fn cached(b: &Bank, a: u32) -> bool
-    ensures { result ≡ cachedOf b.now a }
+    ensures { result ≡ cached_of b.now a }
 {
     cache_on(b) & (b[SP] <= a) & (a < b[MSP])
 }

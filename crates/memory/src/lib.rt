@@ -1,3 +1,4 @@
+#![tactic(auto)]
 // Lent physical memory: bytes in words, most significant byte first.
 pub mod answers;
 pub mod exceptions;

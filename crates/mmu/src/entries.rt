@@ -1,6 +1,6 @@
 // The fields of table entries (Tables 2-1 to 2-3), and what an entry permits.
 ghost use Rattle.std.specs.Prelude.{◌≡◌, ◌-◌, ◌*◌, ◌+◌, ◌^◌, ◌<◌};
-ghost use Rattle.mmu.specs.Walk.{fault_of, is_write, segment_place, page_place, permits as permitsOf};
+ghost use Rattle.mmu.specs.Walk.{fault_of, is_write, segment_place, page_place, permits as permits_of};
 
 use crate::{AccessKind, USER, WRITABLE};
 use memory::exceptions::{FETCH_FAULT, READ_FAULT, WRITE_FAULT};
@@ -52,7 +52,7 @@ pub fn page_place(entry: u32, va: u32) -> u32
 
 // Whether a valid entry permits an access, at user level or not.
 pub fn permits(user: bool, k: AccessKind, e: u32) -> bool
-    ensures { result ≡ permitsOf user k e }
+    ensures { result ≡ permits_of user k e }
 {
     (bit(e, USER) | !user) & (bit(e, WRITABLE) | !is_write(k))
 }

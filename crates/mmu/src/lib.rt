@@ -1,10 +1,11 @@
+#![tactic(auto)]
 // Translation of chapter 2: the walk, which only looks, and the recording bits.
 pub mod entries;
 pub mod recording;
 pub mod translation;
 
 // What an access is for.
-#[derive(Drop)]
+#[derive(Clone, Copy)]
 pub enum AccessKind {
     Fetch,
     Read,
@@ -13,7 +14,7 @@ pub enum AccessKind {
 
 // What the segment number leads to: past memory, an invalid entry, a nonpaged segment's entry, or the address of a
 // page entry, which lies in memory.
-#[derive(Drop)]
+#[derive(Clone, Copy)]
 pub enum Segment {
     Outside,
     Invalid,
@@ -22,7 +23,7 @@ pub enum Segment {
 }
 
 // Where a walk ends: an exception, an address in a nonpaged segment, or an address in a page with its page entry's.
-#[derive(Drop)]
+#[derive(Clone, Copy)]
 pub enum Walk {
     Fault(u32),
     Direct(u32),
@@ -30,7 +31,7 @@ pub enum Walk {
 }
 
 // A translation regime: where the segment table is, at which level an access goes, and whether it is translated.
-#[derive(Drop)]
+#[derive(Clone, Copy)]
 pub struct Regime {
     pub stb: u32,
     pub user: bool,

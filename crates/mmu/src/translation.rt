@@ -1,7 +1,7 @@
 // The walk: from a virtual address to a physical one, in two stages.
 ghost use Rattle.std.specs.Prelude.{◌≡◌};
 ghost use Rattle.mmu.specs.declared.AccessKind.TheVariants as kind;
-ghost use Rattle.mmu.specs.Walk.{segment_of, segment, nonpaged_of, page_of, walk, route as routeOf};
+ghost use Rattle.mmu.specs.Walk.{segment_of, segment, nonpaged_of, page_of, walk, route as route_of};
 
 use crate::entries::{fault_of, page_place, permits, placed, segment_place};
 use crate::{AccessKind, NONPAGED, Segment, VALID, Walk};
@@ -124,7 +124,7 @@ pub fn translate_flush(m: &[u8], user: bool, stb: u32, va: u32) -> Walk
 
 // Where an access goes: through the tables where addresses are virtual, else to the address itself.
 pub fn route(m: &[u8], stb: u32, user: bool, translated: bool, k: AccessKind, va: u32) -> Walk
-    ensures { result ≡ routeOf (record { stb = stb; user = user; translated = translated }) k va m.now }
+    ensures { result ≡ route_of (record { stb = stb; user = user; translated = translated }) k va m.now }
 {
     if translated {
         translate(m, user, stb, k, va)

@@ -1,3 +1,4 @@
+#![tactic(auto)]
 // Prints the list of every one-parcel instruction, in portions, until nothing is left or a write fails.
 ghost use Rattle.std.specs.Prelude.{◌≤◌, length};
 ghost use Rattle.parcels_listing.specs.Listing.{line_size};

@@ -1,3 +1,4 @@
+#![tactic(auto)]
 // The list of every one-parcel instruction: which parcels are on it, the line of one, and the lines that a lent buffer has
 // room for.
 ghost use Rattle.std.specs.Prelude.{◌≡◌, ◌+◌, ◌≤◌, length};
@@ -19,7 +20,7 @@ const LINE_SIZE: usize = 10;
 
 // After a portion of the list: the parcel that the next one begins with, PARCEL_COUNT where nothing is left. The first `place`
 // bytes of the buffer are to be written.
-#[derive(Drop)]
+#[derive(Clone, Copy)]
 pub struct ListState {
     pub next: u32,
     pub place: usize,

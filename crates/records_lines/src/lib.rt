@@ -1,3 +1,4 @@
+#![tactic(auto)]
 // Motorola S-records and frames of kind 02: a line of the one to lines of the other.
 pub mod copies;
 pub mod frames;
@@ -5,7 +6,7 @@ pub mod records;
 pub mod sums;
 
 // After a line: 0 or its refusal, and the place of the buffer after what the line gives.
-#[derive(Drop)]
+#[derive(Clone, Copy)]
 pub struct LineConversion {
     pub refusal: u32,
     pub place: usize,

@@ -1,3 +1,4 @@
+#![tactic(auto)]
 // The loop of the programs that convert: lines from standard input, what they give to standard output. It reads, makes an
 // exchange (`records_conversion::exchanges`), and writes what that answered; no contract can say what is read or written.
 use channels::{Input, receive, send};

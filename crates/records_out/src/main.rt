@@ -1,3 +1,4 @@
+#![tactic(auto)]
 // Frames of kind 02 to Motorola S-records.
 use records_conversion::Way;
 use records_loop::serve;

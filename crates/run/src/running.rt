@@ -3,7 +3,7 @@ ghost use Rattle.std.specs.Prelude.{◌≡◌, ◌%◌, length};
 ghost use Rattle.machine.specs.Cache.{Cache};
 ghost use Rattle.machine.specs.Status.{cpu};
 ghost use Rattle.machine.specs.Record.{cpu_of};
-ghost use Rattle.run_spec.specs.Run.{board, turn_of, advance as advanceOf, refusal as refusalOf, run as run_of};
+ghost use Rattle.run_spec.specs.Run.{board, turn_of, advance as advance_of, refusal as refusal_of, run as run_of};
 ghost use Rattle.run_spec.specs.Stopping.{stopped_at};
 ghost use Rattle.run_spec.specs.Boards.{entry_board, exit_board};
 ghost use Rattle.run.specs.Code.{run_result_of, step_result_of, one_step};
@@ -36,7 +36,7 @@ const LEVEL_NOT_USER: u32 = 9;
 const MOST_LEVEL: u32 = 7;
 
 // Steps done, the stop and its code, with the machine that is left.
-#[derive(Drop)]
+#[derive(Clone, Copy)]
 pub struct Ran {
     pub machine: Machine,
     pub steps: u32,
@@ -45,7 +45,7 @@ pub struct Ran {
 }
 
 // The machine after one step; 0, or the refusal that left it as it was.
-#[derive(Drop)]
+#[derive(Clone, Copy)]
 pub struct SteppedMachine {
     pub machine: Machine,
     pub refusal: u32,
@@ -61,7 +61,7 @@ fn advance(
     level: u32,
 ) -> Stopped
     requires { length m.old % 4 ≡ 0 }
-    ensures { stopped_at result (exit_board m q r) ≡ advanceOf (turn_of confined level) 0 budget (entry_board m q r) }
+    ensures { stopped_at result (exit_board m q r) ≡ advance_of (turn_of confined level) 0 budget (entry_board m q r) }
 {
     let mut journal = [0u64; JOURNAL_WORDS];
     let mut n = 0;
@@ -85,7 +85,7 @@ fn advance(
 
 // The refusals 1, 2, 3 and 9 in this order; 0 is none.
 fn refusal(m: &[u8], r: &Bank, confined: bool, level: u32) -> u32
-    ensures { (q : Cache) → result ≡ refusalOf confined level (board (cpu r.now q) m.now) }
+    ensures { (q : Cache) → result ≡ refusal_of confined level (board (cpu r.now q) m.now) }
 {
     if !whole_pages(m.len()) {
         return MEMORY_SIZE;

@@ -1,16 +1,17 @@
 // One turn of a run: a step, or a stop. The journal holds what a step that loses its stack must put back; the lengths
 // required are those of the run's own journal and of whole pages.
 ghost use Rattle.std.specs.Prelude.{◌≡◌, not, ◌%◌, length};
+ghost use Rattle.access_spec.specs.Clauses.{only_read};
 ghost use Rattle.memory.specs.Answers.{answer_of};
 ghost use Rattle.memory.specs.Bytes.{Memory};
-ghost use Rattle.access_spec.specs.Journal.{journal_words, undo as undoOf};
+ghost use Rattle.access_spec.specs.Journal.{journal_words, undo as undo_of};
 ghost use Rattle.machine.specs.Registers.{word, config};
 ghost use Rattle.machine.specs.Status.{is_user};
 ghost use Rattle.datapath.specs.Clauses.{entry_cpu, exit_cpu, Becomes};
-ghost use Rattle.step_spec.specs.Events.{looked as lookedOf};
-ghost use Rattle.step_spec.specs.Timers.{counted as countedOf};
+ghost use Rattle.step_spec.specs.Events.{looked as looked_of};
+ghost use Rattle.step_spec.specs.Timers.{counted as counted_of};
 ghost use Rattle.step_spec.specs.Step.{holds_stack};
-ghost use Rattle.run_spec.specs.Run.{board, if_stack_held, turn as turnFor, confined_turn, turn_of};
+ghost use Rattle.run_spec.specs.Run.{board, if_stack_held, turn as turn_for, confined_turn, turn_of};
 ghost use Rattle.run_spec.specs.Boards.{entry_board, exit_board};
 ghost use Rattle.exec.specs.Code.{confined_out};
 ghost use Rattle.run.specs.Code.{turned, attempt_ended};
@@ -51,7 +52,7 @@ fn judge(
     x: u64,
 ) -> u64
     ensures { turned result (exit_board m q r)
-        ≡ if_stack_held (holds_stack (entry_cpu q r)) (board (entry_cpu cache bank) (undoOf journal.now m.old))
+        ≡ if_stack_held (holds_stack (entry_cpu q r)) (board (entry_cpu (only_read cache) (only_read bank)) (undo_of journal.now m.old))
         (turned x (entry_board m q r)) }
 {
     if stack_held(r[SP], r[MSP]) {
@@ -65,7 +66,7 @@ fn judge(
 
 // The timers, by the CONFIG and the level that the turn began with.
 fn count_turn(r: &mut Bank, bank: &Bank, completed: bool)
-    ensures { Becomes r (countedOf (word bank.now config) (not (is_user bank.now)) completed) }
+    ensures { Becomes r (counted_of (word bank.now config) (not (is_user bank.now)) completed) }
 {
     let config = bank[CONFIG];
     counted(r, config, !is_user(bank), completed);
@@ -74,7 +75,7 @@ fn count_turn(r: &mut Bank, bank: &Bank, completed: bool)
 // Kind 03: events are taken.
 fn turn(m: &mut [u8], journal: &mut Journal, q: &mut Quads, r: &mut Bank, level: u32) -> u64
     requires { (length m.old % 4 ≡ 0) × (length journal.old ≡ journal_words) }
-    ensures { (turned result (exit_board m q r) ≡ turnFor level (entry_board m q r)) × (length journal.new ≡ journal_words) }
+    ensures { (turned result (exit_board m q r) ≡ turn_for level (entry_board m q r)) × (length journal.new ≡ journal_words) }
 {
     let bank = *r;
     let cache = *q;
@@ -88,7 +89,7 @@ fn turn(m: &mut [u8], journal: &mut Journal, q: &mut Quads, r: &mut Bank, level:
 // been fetched leaves what the look left.
 fn end_attempt(q: &mut Quads, r: &mut Bank, bank: &Bank, cache: &Quads, level: u32, x: u64) -> u64
     ensures { (m : Memory) → turned result (board (exit_cpu q r) m)
-        ≡ attempt_ended (entry_cpu cache bank) (lookedOf level (entry_cpu cache bank)) (confined_out (answer_of x) r.old q.old) m }
+        ≡ attempt_ended (entry_cpu (only_read cache) (only_read bank)) (looked_of level (entry_cpu (only_read cache) (only_read bank))) (confined_out (answer_of x) r.old q.old) m }
 {
     if x < FINISHED {
         trace_falls(r, traces_at(bank[PSW], low32(x)));

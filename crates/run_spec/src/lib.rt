@@ -1,7 +1,8 @@
+#![tactic(auto)]
 // Runs: steps under a budget, with their stops and refusals. No code: the type is what the code of a run answers.
 
 // Steps done, the stop and its code.
-#[derive(Drop)]
+#[derive(Clone, Copy)]
 pub struct Stopped {
     pub steps: u32,
     pub stop: u32,

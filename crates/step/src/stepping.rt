@@ -5,7 +5,7 @@ ghost use Rattle.machine.specs.Cache.{Cache};
 ghost use Rattle.machine.specs.Status.{cpu};
 ghost use Rattle.datapath.specs.Clauses.{entry_cpu, exit_cpu};
 ghost use Rattle.exec.specs.Code.{acted_out};
-ghost use Rattle.step_spec.specs.Step.{stepped, finish as finishOf, instruction_step, step as step_of};
+ghost use Rattle.step_spec.specs.Step.{stepped, finish as finish_of, instruction_step, step as step_of};
 
 use crate::events::{event_step, exception_step};
 use access_spec::Journal;
@@ -20,7 +20,7 @@ use word::fields::bit;
 
 // After an attempt that began with the PSW p: a trace falls due, or the exception is taken.
 fn finish(m: &mut [u8], journal: &mut Journal, r: &mut Bank, p: u32, x: u64) -> bool
-    ensures { (q : Cache) → Interprets (stepped (cpu r.new q) result) m journal (finishOf p (acted_out (answer_of x) r.old q)) }
+    ensures { (q : Cache) → Interprets (stepped (cpu r.new q) result) m journal (finish_of p (acted_out (answer_of x) r.old q)) }
 {
     if EXCEPTION <= x {
         exception_step(m, journal, r, low32(x));

@@ -2,7 +2,7 @@
 ghost use Rattle.std.specs.Prelude.{◌≡◌, ◌%◌, ◌≤◌};
 ghost use Rattle.word.specs.Fields.{field_of};
 ghost use Rattle.datapath.specs.Clauses.{Becomes};
-ghost use Rattle.step_spec.specs.Events.{due_of, looked as lookedOf, taken_of, vector_of};
+ghost use Rattle.step_spec.specs.Events.{due_of, looked as looked_of, taken_of, vector_of};
 ghost use Rattle.step_spec.specs.Step.{trace_falls};
 ghost use Rattle.step_pending.specs.Dues.{due_code, nothing_due, event_from};
 
@@ -29,7 +29,7 @@ const INTERRUPT_VECTOR: u32 = 16;
 
 // A look that finds another level ends the wait of input 0.
 pub fn looked(b: &mut Bank, level: u32)
-    ensures { Becomes b (lookedOf level) }
+    ensures { Becomes b (looked_of level) }
 {
     if level != 0 {
         b[NMI_TAKEN] = 0;

@@ -2,7 +2,7 @@
 ghost use Rattle.std.specs.Prelude.{◌≡◌};
 ghost use Rattle.machine.specs.Registers.{timer1, timer2, timer1_due, timer2_due};
 ghost use Rattle.datapath.specs.Clauses.{Becomes};
-ghost use Rattle.step_spec.specs.Timers.{counts1 as counts1Of, counts2 as counts2Of, ticked, counted as countedOf, first_counted, second_counted};
+ghost use Rattle.step_spec.specs.Timers.{counts1 as counts1Of, counts2 as counts2Of, ticked, counted as counted_of, first_counted, second_counted};
 
 use machine::Bank;
 use machine::bits::{
@@ -75,7 +75,7 @@ fn count2(b: &mut Bank, config: u32, kernel: bool, completed: bool)
 
 // Both, by the CONFIG and the level that the step began with.
 pub fn counted(b: &mut Bank, config: u32, kernel: bool, completed: bool)
-    ensures { Becomes b (countedOf config kernel completed) }
+    ensures { Becomes b (counted_of config kernel completed) }
 {
     count1(b, config, kernel, completed);
     count2(b, config, kernel, completed);

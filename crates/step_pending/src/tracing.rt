@@ -1,6 +1,6 @@
 // What tracing makes of an instruction (Table 1-8).
 ghost use Rattle.std.specs.Prelude.{◌≡◌};
-ghost use Rattle.exec_spec.specs.Execute.{monadic_traced, niladic_traced, traced as tracedOf};
+ghost use Rattle.exec_spec.specs.Execute.{monadic_traced, niladic_traced, traced as traced_of};
 ghost use Rattle.step_spec.specs.Step.{traces_at};
 ghost use Rattle.exec_rows.specs.Rows.{action_of};
 ghost use Rattle.step_pending.specs.Traces.{traced_from};
@@ -50,7 +50,7 @@ fn niladic_traced(o: Niladic) -> u32
 
 // An instruction by what it does.
 pub fn traced(a: Action) -> u32
-    ensures { traced_from result ≡ tracedOf (action_of a) }
+    ensures { traced_from result ≡ traced_of (action_of a) }
 {
     match a {
         Action::Two(_, _, _, _) => ALWAYS,

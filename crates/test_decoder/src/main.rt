@@ -1,3 +1,4 @@
+#![tactic(auto)]
 // Reads parcels, one instruction a line, and writes the number that decoding answers and, for an instruction, its eight
 // words, in hexadecimal. A mark follows where encoding the words at their length does not give the parcels back.
 ghost use Rattle.std.specs.Prelude.{◌≤◌};
@@ -8,7 +9,7 @@ use hobbit_blocks::{decode_into, encode_from};
 const REGISTER: u32 = 16;
 
 // A line so far: its digits, and the parcels that they make.
-#[derive(Drop)]
+#[derive(Clone, Copy)]
 struct Line {
     digits: usize,
     parcels: [u16; 6],

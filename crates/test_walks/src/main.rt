@@ -1,3 +1,4 @@
+#![tactic(auto)]
 // Walks over tables in 64 KB of memory, as lines of hexadecimal numbers say (crates/walks/stdin, written by tests/walks.py):
 //   0 ADDRESS WORD                            stores a word
 //   1 KIND LEVEL VA STB TRANSLATED BYTES      walks and records, with so many bytes of memory: prints what the access is
@@ -13,7 +14,7 @@ use mmu::translation::route;
 use mmu::{AccessKind, Walk};
 
 // A line so far: its numbers, and the place of the one that goes on.
-#[derive(Drop)]
+#[derive(Clone, Copy)]
 struct Line {
     at: usize,
     numbers: [u32; 7],

@@ -22,7 +22,7 @@ use Rattle.exec_spec.specs.Execute.{execute_monadic, execute_normal, execute}
 use Rattle.step_spec.specs.Timers.{counted}
 use Rattle.step_spec.specs.Step.{fetch_instruction, act, attempt, finish, instruction_step, step}
 use Rattle.run_spec.specs.Run.{Board, board, RunResult, turn, act_confined, confined_attempt, confined_turn, advance, refusal, run}
-use Rattle.isolation.specs.Execution.{execution, passed as passedOf}
+use Rattle.isolation.specs.Execution.{execution, passed as passed_of}
 use Rattle.witnesses.specs.Boards.{is, all, page, pages, word, text, kernel, user, segmented, runs, confined, register, memory_word}
 
 -- ---- refusals: memory of a byte less than a page, a reserved bit of PSW, level 8, kernel level
@@ -218,5 +218,5 @@ unfolding confined_runs run refusal good_bank advance confined_turn confined_att
 confined_runs_checked = tt
 
 pub executions_checked : T (all executions)
-unfolding executions execution passedOf refusal good_bank confined_turn confined_attempt act_confined fetch_instruction counted execute_normal execute move perform dyadic located locate read_place read_operand write_place check_registers fetch_parcel fetch_parcels fetch_after fetch_text onward ◌>>=◌ request parcel_request read_memory read_data write_memory write_data interpret after touch follow access segment_of segment nonpaged_of walk_from walk route decode_dyadic decode_wide decode_bare decode_of load store_answer store_memory
+unfolding executions execution passed_of refusal good_bank confined_turn confined_attempt act_confined fetch_instruction counted execute_normal execute move perform dyadic located locate read_place read_operand write_place check_registers fetch_parcel fetch_parcels fetch_after fetch_text onward ◌>>=◌ request parcel_request read_memory read_data write_memory write_data interpret after touch follow access segment_of segment nonpaged_of walk_from walk route decode_dyadic decode_wide decode_bare decode_of load store_answer store_memory
 executions_checked = tt

@@ -1,3 +1,4 @@
+#![tactic(auto)]
 // 32-bit words: sums, products, quotients, shifts, widths and tagged sums, with the flags of the manual's section 1.8.
 // Where a function has b and a, b is the destination operand of the instruction and a its source operand.
 pub mod fields;
@@ -8,7 +9,7 @@ pub mod tags;
 pub mod widths;
 
 // A sum, difference or product with its carry and overflow (1.8.1, 1.8.2).
-#[derive(Drop)]
+#[derive(Clone, Copy)]
 pub struct Sum {
     pub value: u32,
     pub carry: bool,
@@ -16,7 +17,7 @@ pub struct Sum {
 }
 
 // A signed quotient with its remainder and overflow (1.8.2, 1.8.3).
-#[derive(Drop)]
+#[derive(Clone, Copy)]
 pub struct Quotient {
     pub value: u32,
     pub rest: u32,
@@ -24,7 +25,7 @@ pub struct Quotient {
 }
 
 // What TADD and TSUB leave: the destination's value, whether it is stored at all, and the flags C, V and F (1.8.4).
-#[derive(Drop)]
+#[derive(Clone, Copy)]
 pub struct Tagged {
     pub value: u32,
     pub stored: bool,
@@ -34,7 +35,7 @@ pub struct Tagged {
 }
 
 // The widths of an operand (1.2).
-#[derive(Drop)]
+#[derive(Clone, Copy)]
 pub enum Width {
     Byte,
     Half,

@@ -1,0 +1,9 @@
+use Rattle.access.proofs.UndoLaws.{PuttingBack, putting_begun, putting_more, putting_end}
+use Rattle.std.proofs.Common.{rules}
+use Rattle.access.proofs.journal.undo.Given as goal
+
+abbrev pub invariant-loop-i : goal.invariant-loop-i
+invariant-loop-i l = PuttingBack l.journal l.initial.m l.m l.i
+
+abbrev pub decreases-loop-i : goal.decreases-loop-i
+decreases-loop-i l = l.i

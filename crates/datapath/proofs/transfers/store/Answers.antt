@@ -1,0 +1,10 @@
+use Rattle.datapath.proofs.PartLaws.{store_fault, store_done}
+use Rattle.access_spec.specs.Journal.{journaled}
+use Rattle.std.proofs.Common.{rules}
+use Rattle.datapath.proofs.transfers.store.Goals as goal
+
+pub returns-then-x-ge-EXCEPTION : goal.returns-then-x-ge-EXCEPTION
+returns-then-x-ge-EXCEPTION c = store_fault c.args.r.now _ _ c.args.a _ (journaled c.args.m.now c.args.journal.now) _ c.write_data-x.ensures _ c.if-x-ge-EXCEPTION.true c.set_fault.ensures
+
+pub returns-else-x-ge-EXCEPTION : goal.returns-else-x-ge-EXCEPTION
+returns-else-x-ge-EXCEPTION c = store_done c.args.r.now _ _ c.args.a _ (journaled c.args.m.now c.args.journal.now) _ c.write_data-x.ensures c.if-x-ge-EXCEPTION.false

@@ -1,0 +1,5 @@
+use Rattle.std.proofs.Common.{rules}
+use Rattle.decode.proofs.fields.middle.Goals as goal
+
+pub returns : goal.returns
+returns c = c.field.ensures

@@ -1,0 +1,14 @@
+use Prim.Native.Nat.{◌-◌, ◌*◌}
+use Rattle.machine.specs.Cache.{flat_to}
+use Rattle.machine.proofs.FlatLaws.{Front, front_none, flat_more, flat_all}
+use Rattle.std.proofs.Common.{rules}
+use Rattle.machine.proofs.cache.flat.Goals as goal
+
+pub loop-i-init : goal.loop-i-init
+loop-i-init c = search (rules, front_none)
+
+pub loop-i-preserved : goal.loop-i-preserved
+loop-i-preserved c = search (rules, flat_more)
+
+pub returns : goal.returns
+returns c = search (rules, flat_all)

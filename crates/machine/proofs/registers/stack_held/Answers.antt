@@ -1,0 +1,6 @@
+use mathlib.Core.Path.{refl}
+use Rattle.std.proofs.Common.{rules}
+use Rattle.machine.proofs.registers.stack_held.Goals as goal
+
+pub returns : goal.returns
+returns c = refl

@@ -1,0 +1,9 @@
+use lib.Bits.{and_mask, mask_lt}
+use Rattle.std.proofs.Common.{rules}
+use Rattle.memory.proofs.answers.low32.Goals as goal
+
+pub overflow_cast-result : goal.overflow_cast-result
+overflow_cast-result c = search (rules, mask_lt c.args.a 32)
+
+pub returns : goal.returns
+returns c = and_mask c.args.a 32

@@ -1,0 +1,5 @@
+use Rattle.std.proofs.Common.{rules}
+use Rattle.mmu.proofs.entries.permits.Goals as goal
+
+pub returns : goal.returns
+returns c = cc

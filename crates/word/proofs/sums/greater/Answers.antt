@@ -1,0 +1,5 @@
+use Rattle.std.proofs.Common.{rules}
+use Rattle.word.proofs.sums.greater.Goals as goal
+
+pub returns : goal.returns
+returns c = cc
