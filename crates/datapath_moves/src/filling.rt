@@ -117,7 +117,7 @@ fn fill_words(
 // alone.)
 fn read_beside(m: &[u8], stb: u32, user: bool, a: u32, pa: u32, i: u32) -> u64
     requires { Quad user stb kind.Read a m.now pa × (i < 16) × (i % 4 ≡ 0) }
-    ensures { ((j : Journal) → AnswersReadOnly result (only_read m) j (reads (regime_for stb user true) width.Word (a + i))) × (result < 2 ^ 32) }
+    ensures { ((j : Journal) → AnswersReadOnly result m.now j (reads (regime_for stb user true) width.Word (a + i))) × (result < 2 ^ 32) }
 {
     load_word(m, pa + i)
 }
@@ -126,7 +126,7 @@ fn read_beside(m: &[u8], stb: u32, user: bool, a: u32, pa: u32, i: u32) -> u64
 fn fill_found(m: &[u8], q: &mut Quads, r: &mut Bank, stb: u32, user: bool, a: u32, pa: u32) -> u64
     requires { Quad user stb kind.Read a m.now pa }
     ensures { (j : Journal)
-        → InterpretsReadOnly (cpu_out (answer_of result) r.new q.new) (only_read m) j (fill_quad (entry_cpu q r) (regime_for stb user true) a) }
+        → InterpretsReadOnly (cpu_out (answer_of result) r.new q.new) m.now j (fill_quad (entry_cpu q r) (regime_for stb user true) a) }
 {
     let x0 = read_beside(m, stb, user, a, pa, 0);
     let x1 = read_beside(m, stb, user, a, pa, 4);

@@ -2,7 +2,7 @@
 ghost use Rattle.std.specs.Prelude.{◌≡◌, false, ◌%◌, ◌<◌};
 ghost use Rattle.exec_spec.specs.declared.Operation.TheVariants.{Add, Sub, Mul, Div, Rem, Udiv, Urem, And, Or, Xor, Shl, Shr, Ushr};
 ghost use Rattle.exec_spec.specs.Alu.{stays, gets, flagged, operate as operate_of};
-ghost use Rattle.exec_alu.specs.Results.{flag_from, result, unpacked, laid_over};
+ghost use Rattle.exec_alu.specs.Results.{flag_from, outcome, unpacked, laid_over};
 
 use crate::psw::{digit, with_bit_as};
 use word::products::{div, mul, udiv, urem};
@@ -15,49 +15,49 @@ const FLAGS: u64 = 0x1_0000_0000;
 // A value with the codes of carry and overflow.
 fn packed(value: u32, carry: u32, overflow: u32) -> u64
     requires { (carry < 4) × (overflow < 4) }
-    ensures* { λ r. ⌜ unpacked r ≡ result value (flag_from carry) (flag_from overflow) ⌝ }
+    ensures { unpacked result ≡ outcome value (flag_from carry) (flag_from overflow) }
 {
     value as u64 + (carry + overflow * 4) as u64 * FLAGS
 }
 
 // A value that sets both flags.
 fn both_flags(value: u32, carry: bool, overflow: bool) -> u64
-    ensures* { λ r. ⌜ unpacked r ≡ result value (gets carry) (gets overflow) ⌝ }
+    ensures { unpacked result ≡ outcome value (gets carry) (gets overflow) }
 {
     packed(value, digit(carry), digit(overflow))
 }
 
 // A value that sets the overflow.
 fn overflow_only(value: u32, overflow: bool) -> u64
-    ensures* { λ r. ⌜ unpacked r ≡ result value stays (gets overflow) ⌝ }
+    ensures { unpacked result ≡ outcome value stays (gets overflow) }
 {
     packed(value, 2, digit(overflow))
 }
 
 // A value that clears the carry.
 fn carry_cleared(value: u32) -> u64
-    ensures* { λ r. ⌜ unpacked r ≡ result value (gets false) stays ⌝ }
+    ensures { unpacked result ≡ outcome value (gets false) stays }
 {
     packed(value, 0, 2)
 }
 
 // A value that leaves the flags.
 fn no_flags(value: u32) -> u64
-    ensures* { λ r. ⌜ unpacked r ≡ result value stays stays ⌝ }
+    ensures { unpacked result ≡ outcome value stays stays }
 {
     packed(value, 2, 2)
 }
 
 // The value of a packed result.
 pub fn value_of(w: u64) -> u32
-    ensures* { λ r. ⌜ r ≡ (unpacked w).value ⌝ }
+    ensures { result ≡ (unpacked w).value }
 {
     (w & 0xFFFF_FFFF) as u32
 }
 
 // x with bit n as a flag's code says.
 fn with_code(n: u32, code: u32, x: u32) -> u32
-    ensures* { λ r. ⌜ r ≡ flagged (n % 32) (flag_from code) x ⌝ }
+    ensures { result ≡ flagged (n % 32) (flag_from code) x }
 {
     if code == 2 {
         x
@@ -68,7 +68,7 @@ fn with_code(n: u32, code: u32, x: u32) -> u32
 
 // The flags of a packed result laid over a PSW.
 pub fn laid_over(w: u64, psw: u32) -> u32
-    ensures* { λ r. ⌜ r ≡ laid_over (unpacked w) psw ⌝ }
+    ensures { result ≡ laid_over (unpacked w) psw }
 {
     let flags = w >> 32;
     with_code(
@@ -80,21 +80,21 @@ pub fn laid_over(w: u64, psw: u32) -> u32
 
 // ADD, SUB, MUL: both flags.
 pub fn packed_add(d: u32, s: u32) -> u64
-    ensures* { λ r. ⌜ unpacked r ≡ operate_of Add d s ⌝ }
+    ensures { unpacked result ≡ operate_of Add d s }
 {
     let t = add(d, s);
     both_flags(t.value, t.carry, t.overflow)
 }
 
 pub fn packed_sub(d: u32, s: u32) -> u64
-    ensures* { λ r. ⌜ unpacked r ≡ operate_of Sub d s ⌝ }
+    ensures { unpacked result ≡ operate_of Sub d s }
 {
     let t = sub(d, s);
     both_flags(t.value, t.carry, t.overflow)
 }
 
 pub fn packed_mul(d: u32, s: u32) -> u64
-    ensures* { λ r. ⌜ unpacked r ≡ operate_of Mul d s ⌝ }
+    ensures { unpacked result ≡ operate_of Mul d s }
 {
     let t = mul(d, s);
     both_flags(t.value, t.carry, t.overflow)
@@ -102,14 +102,14 @@ pub fn packed_mul(d: u32, s: u32) -> u64
 
 // DIV and REM set the overflow.
 pub fn packed_div(d: u32, s: u32) -> u64
-    ensures* { λ r. ⌜ unpacked r ≡ operate_of Div d s ⌝ }
+    ensures { unpacked result ≡ operate_of Div d s }
 {
     let t = div(d, s);
     overflow_only(t.value, t.overflow)
 }
 
 pub fn packed_rem(d: u32, s: u32) -> u64
-    ensures* { λ r. ⌜ unpacked r ≡ operate_of Rem d s ⌝ }
+    ensures { unpacked result ≡ operate_of Rem d s }
 {
     let t = div(d, s);
     overflow_only(t.rest, false)
@@ -117,50 +117,50 @@ pub fn packed_rem(d: u32, s: u32) -> u64
 
 // UDIV and UREM clear the carry.
 pub fn packed_udiv(d: u32, s: u32) -> u64
-    ensures* { λ r. ⌜ unpacked r ≡ operate_of Udiv d s ⌝ }
+    ensures { unpacked result ≡ operate_of Udiv d s }
 {
     carry_cleared(udiv(d, s))
 }
 
 pub fn packed_urem(d: u32, s: u32) -> u64
-    ensures* { λ r. ⌜ unpacked r ≡ operate_of Urem d s ⌝ }
+    ensures { unpacked result ≡ operate_of Urem d s }
 {
     carry_cleared(urem(d, s))
 }
 
 // The others leave the flags.
 pub fn packed_and(d: u32, s: u32) -> u64
-    ensures* { λ r. ⌜ unpacked r ≡ operate_of And d s ⌝ }
+    ensures { unpacked result ≡ operate_of And d s }
 {
     no_flags(bit_and(d, s))
 }
 
 pub fn packed_or(d: u32, s: u32) -> u64
-    ensures* { λ r. ⌜ unpacked r ≡ operate_of Or d s ⌝ }
+    ensures { unpacked result ≡ operate_of Or d s }
 {
     no_flags(bit_or(d, s))
 }
 
 pub fn packed_xor(d: u32, s: u32) -> u64
-    ensures* { λ r. ⌜ unpacked r ≡ operate_of Xor d s ⌝ }
+    ensures { unpacked result ≡ operate_of Xor d s }
 {
     no_flags(bit_xor(d, s))
 }
 
 pub fn packed_shl(d: u32, s: u32) -> u64
-    ensures* { λ r. ⌜ unpacked r ≡ operate_of Shl d s ⌝ }
+    ensures { unpacked result ≡ operate_of Shl d s }
 {
     no_flags(shl(d, s))
 }
 
 pub fn packed_shr(d: u32, s: u32) -> u64
-    ensures* { λ r. ⌜ unpacked r ≡ operate_of Shr d s ⌝ }
+    ensures { unpacked result ≡ operate_of Shr d s }
 {
     no_flags(shr(d, s))
 }
 
 pub fn packed_ushr(d: u32, s: u32) -> u64
-    ensures* { λ r. ⌜ unpacked r ≡ operate_of Ushr d s ⌝ }
+    ensures { unpacked result ≡ operate_of Ushr d s }
 {
     no_flags(ushr(d, s))
 }

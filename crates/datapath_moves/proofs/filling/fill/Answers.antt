@@ -8,22 +8,13 @@ pub loop-n-init : goal.loop-n-init
 loop-n-init c = filling_begun _ _ _ _ _ _
 
 pub loop-n-preserved : goal.loop-n-preserved
-loop-n-preserved c = filling_more (regime_for c.args.stb c.args.user c.args.translated) c.args.target c.args.m.now c.args.journal.now c.args.q.now c.args.r.now _ _ _ _ _ _ c.loop-n.invariant c.loop-n-test.true _ c.may_fill.ensures c.if-may_fill.true _ _ _ _ _ c.fill_quad-x.ensures c.if-x-ge-EXCEPTION.false c.fill_quad-x.auto.0
-
-pub shape_of-m-after-loop-n : goal.shape_of-m-after-loop-n
-shape_of-m-after-loop-n c = c.loop-n.invariant.long
+loop-n-preserved c = filling_more (regime_for c.args.stb c.args.user c.args.translated) c.args.target c.args.m.now c.args.journal.now c.args.q.now c.args.r.now _ _ _ _ _ _ c.loop-n.invariant c.loop-n-test.true _ c.may_fill.ensures c.if-may_fill.true _ _ _ _ _ c.fill_quad-x.ensures c.if-x-ge-EXCEPTION.false c.fill_quad-x.auto.m
 
 pub returns-after-loop-n : goal.returns-after-loop-n
 returns-after-loop-n c = filling_end (regime_for c.args.stb c.args.user c.args.translated) c.args.target c.args.m.now c.args.journal.now c.args.q.now c.args.r.now _ _ _ _ _ _ c.loop-n.invariant c.loop-n-test.false
 
-pub shape_of-m-then-x-ge-EXCEPTION : goal.shape_of-m-then-x-ge-EXCEPTION
-shape_of-m-then-x-ge-EXCEPTION c = c.fill_quad-x.auto.0 ∙ c.loop-n.invariant.long
-
 pub returns-then-x-ge-EXCEPTION : goal.returns-then-x-ge-EXCEPTION
 returns-then-x-ge-EXCEPTION c = filling_fault (regime_for c.args.stb c.args.user c.args.translated) c.args.target c.args.m.now c.args.journal.now c.args.q.now c.args.r.now _ _ _ _ _ _ c.loop-n.invariant c.loop-n-test.true _ c.may_fill.ensures c.if-may_fill.true _ _ _ _ _ c.fill_quad-x.ensures c.if-x-ge-EXCEPTION.true
-
-pub shape_of-m-else-may_fill : goal.shape_of-m-else-may_fill
-shape_of-m-else-may_fill c = c.loop-n.invariant.long
 
 pub returns-else-may_fill : goal.returns-else-may_fill
 returns-else-may_fill c = filling_enough (regime_for c.args.stb c.args.user c.args.translated) c.args.target c.args.m.now c.args.journal.now c.args.q.now c.args.r.now _ _ _ _ _ _ c.loop-n.invariant c.loop-n-test.true _ c.may_fill.ensures c.if-may_fill.false

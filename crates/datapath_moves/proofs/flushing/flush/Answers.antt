@@ -7,22 +7,13 @@ pub loop-n-init : goal.loop-n-init
 loop-n-init c = flushing_begun _ _ _ _ _ _
 
 pub loop-n-preserved : goal.loop-n-preserved
-loop-n-preserved c = flushing_more c.args.q.now c.args.all c.args.target c.args.m.now c.args.journal.now c.args.r.now _ _ _ _ _ c.loop-n.invariant c.loop-n-test.true _ c.may_flush.ensures c.if-may_flush.true _ c.minus-a.ensures _ _ _ _ c.flush_quad-x.ensures c.if-x-ge-EXCEPTION.false c.flush_quad-x.auto.0
-
-pub shape_of-m-after-loop-n : goal.shape_of-m-after-loop-n
-shape_of-m-after-loop-n c = c.loop-n.invariant.long
+loop-n-preserved c = flushing_more c.args.q.now c.args.all c.args.target c.args.m.now c.args.journal.now c.args.r.now _ _ _ _ _ c.loop-n.invariant c.loop-n-test.true _ c.may_flush.ensures c.if-may_flush.true _ c.minus-a.ensures _ _ _ _ c.flush_quad-x.ensures c.if-x-ge-EXCEPTION.false c.flush_quad-x.auto.m
 
 pub returns-after-loop-n : goal.returns-after-loop-n
 returns-after-loop-n c = flushing_end c.args.q.now c.args.all c.args.target c.args.m.now c.args.journal.now c.args.r.now _ _ _ _ _ c.loop-n.invariant c.loop-n-test.false
 
-pub shape_of-m-then-x-ge-EXCEPTION : goal.shape_of-m-then-x-ge-EXCEPTION
-shape_of-m-then-x-ge-EXCEPTION c = c.flush_quad-x.auto.0 ∙ c.loop-n.invariant.long
-
 pub returns-then-x-ge-EXCEPTION : goal.returns-then-x-ge-EXCEPTION
 returns-then-x-ge-EXCEPTION c = flushing_fault c.args.q.now c.args.all c.args.target c.args.m.now c.args.journal.now c.args.r.now _ _ _ _ _ c.loop-n.invariant c.loop-n-test.true _ c.may_flush.ensures c.if-may_flush.true _ c.minus-a.ensures _ _ _ _ c.flush_quad-x.ensures c.if-x-ge-EXCEPTION.true
-
-pub shape_of-m-else-may_flush : goal.shape_of-m-else-may_flush
-shape_of-m-else-may_flush c = c.loop-n.invariant.long
 
 pub returns-else-may_flush : goal.returns-else-may_flush
 returns-else-may_flush c = flushing_enough c.args.q.now c.args.all c.args.target c.args.m.now c.args.journal.now c.args.r.now _ _ _ _ _ c.loop-n.invariant c.loop-n-test.true _ c.may_flush.ensures c.if-may_flush.false

@@ -4,8 +4,5 @@ use mathlib.Core.Path.{◌∙◌}
 use Rattle.std.proofs.Common.{rules}
 use Rattle.datapath_moves.proofs.flushing.flush_found.Goals as goal
 
-pub shape_of-m : goal.shape_of-m
-shape_of-m c = c.write_beside.auto.0 ∙ c.write_beside-x2.auto.0 ∙ c.write_beside-x1.auto.0 ∙ c.write_beside-x0.auto.0
-
 pub returns : goal.returns
 returns c = found_flushed c.args.q.now c.args.user c.args.stb c.args.a c.args.pa c.args.m.now c.requires c.ranges.a.fits _ _ _ _ _ _ _ _ _ _ _ (journaled c.args.m.now c.args.journal.now) _ _ _ _ c.cache_word-v0.ensures c.write_beside-x0.ensures.0 c.write_beside-x0.ensures.2 c.plus.ensures c.cache_word-v1.ensures c.write_beside-x1.ensures.0 c.write_beside-x1.ensures.2 c.plus-2.ensures c.cache_word-v2.ensures c.write_beside-x2.ensures.0 c.write_beside-x2.ensures.2 c.plus-3.ensures c.cache_word-v3.ensures c.write_beside.ensures.0 c.write_beside.ensures.2

@@ -1,0 +1,6 @@
+use Rattle.exec_registers.proofs.FrameLaws.{stored}
+use Rattle.std.proofs.Common.{rules}
+use Rattle.exec_registers.proofs.status.tagged_flags.Goals as goal
+
+pub returns : goal.returns
+returns c = search (rules, stored)
