@@ -1,0 +1,10 @@
+use Rattle.exec.proofs.NiladicLaws.{user_stopped, kernel_gone}
+use Rattle.access_spec.specs.Journal.{journaled}
+use Rattle.std.proofs.Common.{rules}
+use Rattle.exec.proofs.niladics.kret_privileged.Goals as goal
+
+pub returns-then-is_user : goal.returns-then-is_user
+returns-then-is_user c = λ q. user_stopped c.args.r.now q _ (journaled c.args.m.now c.args.journal.now) _ c.is_user.ensures c.if-is_user.true _ c.raised.ensures
+
+pub returns-else-is_user : goal.returns-else-is_user
+returns-else-is_user c = λ q. kernel_gone c.args.r.now q _ (journaled c.args.m.now c.args.journal.now) _ c.is_user.ensures c.if-is_user.false _ (c.kret.ensures q)
