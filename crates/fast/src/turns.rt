@@ -48,7 +48,7 @@ pub fn fast_turn(m: &mut [u8], q: &mut Quads, r: &mut Bank, level: u32) -> bool
     let config = r[CONFIG];
     let kernel = !is_user(r);
     let instruction_done = fast_attempt(m, q, r);
-    if !instructionDone {
+    if !instruction_done {
         return false;
     }
     counted(r, config, kernel, true);

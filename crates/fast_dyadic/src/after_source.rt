@@ -43,7 +43,7 @@ fn compute_at(
     }
     let z = operate(op, low32(y), x);
     let instruction_done = fast_put(m, q, r, mode, d, a, value_of(z));
-    if !instructionDone {
+    if !instruction_done {
         return false;
     }
     with_flags(r, z);
@@ -73,7 +73,7 @@ fn accumulate_at(
     let z = operate(op, low32(y), x);
     let b = stack_address(r, 4);
     let instruction_done = fast_store(m, q, r, Width::Word, b, value_of(z));
-    if !instructionDone {
+    if !instruction_done {
         return false;
     }
     with_flags(r, z);

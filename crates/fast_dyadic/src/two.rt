@@ -84,7 +84,7 @@ pub fn fast_two(
         return false;
     }
     let instruction_done = finish(m, q, r, wide, t, dm, d, low32(x));
-    if !instructionDone {
+    if !instruction_done {
         return false;
     }
     advance_pc(r, n);
