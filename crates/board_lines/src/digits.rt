@@ -46,7 +46,7 @@ fn few_digits(line: &[u8]) -> bool
 }
 
 // By eights or sixteens, if there are as many. The last ones end with the line, over some that were read already.
-pub fn all_digits_law(line: &[u8]) -> bool
+pub fn all_digits(line: &[u8]) -> bool
     ensures { result ≡ all_digits line.now }
 {
     let n = line.len();

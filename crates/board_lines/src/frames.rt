@@ -4,7 +4,7 @@ ghost use Rattle.hex_digits.specs.Digits.{all_digits};
 ghost use Rattle.board_lines.specs.Lines.{is_length, of_twelve, frame_of, numbers_of};
 
 use crate::Frame;
-use crate::digits::{all_digits_law, byte_at, word_at};
+use crate::digits::{all_digits, byte_at, word_at};
 
 fn is_length(n: usize) -> bool
     ensures { result ≡ is_length n }
@@ -34,7 +34,7 @@ pub fn parse(line: &[u8]) -> Frame
 {
     let n = line.len();
     if is_length(n) {
-        if all_digits_law(line) {
+        if all_digits(line) {
             let kind = byte_at(line, 0);
             if kind == 2 {
                 return Frame::Store(word_at(line, 2));

@@ -9,7 +9,7 @@ ghost use Rattle.records_lines.specs.Conversions.{store_frame, frames_of, record
 use crate::LineConversion;
 use crate::copies::copy;
 use crate::sums::{byte_at, checksum};
-use board_lines::digits::{all_digits_law, byte_of};
+use board_lines::digits::{all_digits, byte_of};
 use hex_digits::put_digits;
 use lines::least;
 use std::num::wrapping_add_u32;
@@ -76,7 +76,7 @@ fn is_record(line: &[u8]) -> bool
     }
     let count = byte_of(line[2], line[3]) as usize;
     if (line[0] == b'S') & (n == HEAD + 2 * count) {
-        return is_count(line[1], count) & all_digits_law(&line[2..]);
+        return is_count(line[1], count) & all_digits(&line[2..]);
     }
     false
 }

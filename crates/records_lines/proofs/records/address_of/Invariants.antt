@@ -1,0 +1,9 @@
+use Rattle.records_lines.proofs.SumLaws.{Addressing, addressing_none, addressing_more, addressing_all, addressing_fits}
+use Rattle.std.proofs.Common.{◌-◌, arith, rules}
+use Rattle.records_lines.proofs.records.address_of.Given as goal
+
+abbrev pub invariant-loop-k : goal.invariant-loop-k
+invariant-loop-k l = Addressing l.digits l.w l.k l.a
+
+abbrev pub decreases-loop-k : goal.decreases-loop-k
+decreases-loop-k l = l.w - l.k
