@@ -2,7 +2,7 @@
 -- who shows what it asks for learns what it ensures.
 -- Assumes nothing.
 use Rattle.std.specs.Prelude.{ℕ, Bool, List}
-use Rattle.std.specs.Borrow.{GName, Bor}
+use Rattle.std.specs.Borrow.{GName, Bor, MutBor}
 use contract.Lifetimes.{Lfts}
 use denote.Triple.Entry.{Args}
 use denote.Triple.Clauses.{Lasts, at_exit}
@@ -29,8 +29,12 @@ pub record Reference : Type 0 where
   pub ptr : ℕ × ℕ
   pub name : GName
 
-abbrev pub lent_at : {X : Type 0} → Reference → X → Bor X
+abbrev pub lent_at : {X : Type 0} → Reference → X → MutBor X
 lent_at p x = record { ref_ptr = p.ptr; ghost_name = p.name; now = x }
+
+-- of a parameter that is only read
+abbrev pub read_at : {X : Type 0} → Reference → X → Bor X
+read_at p x = record { ref_ptr = p.ptr; now = x }
 
 -- ---- `run::running::run_lent`
 
@@ -90,7 +94,7 @@ pub record LentBoard : Type 0 where
   pub buffer : List ℕ
   pub tally : Tally
 
-abbrev pub lent_to : ExchangePlaces → LentBoard → Bor Memory × (Bor Cache × (Bor Bank × (Bor (List ℕ) × (Bor Tally × Unit {0}))))
+abbrev pub lent_to : ExchangePlaces → LentBoard → MutBor Memory × (MutBor Cache × (MutBor Bank × (MutBor (List ℕ) × (MutBor Tally × Unit {0}))))
 lent_to p s =
     let cache = lent_at p.cache s.machine.cache in
     let bank = lent_at p.bank s.machine.bank in
@@ -140,7 +144,7 @@ Finish s x =
     lifetimes = x.places.lifetimes
 
     arguments : Args finish.signature lifetimes
-    arguments = (x.stream, (lent_at x.places.block x.block, lent_to x.places s))
+    arguments = (x.stream, (read_at x.places.block x.block, lent_to x.places s))
 
     left : Lasts finish.ended lifetimes arguments
     left = (tt, (tt, left_by x.left))
