@@ -14,15 +14,15 @@ const BLOCK: usize = 32768;
 const ROOM: usize = 13 * BLOCK;
 
 // Reads behind what is kept, unless a line is left to be answered.
-fn more_input(s: LoopState, block: &mut [u8]) -> Input {
+fn more_input(rt: &HostRuntime, s: LoopState, block: &mut [u8]) -> Input {
     if s.more {
         return Input::Filled(s.end);
     }
-    receive(block, s.end)
+    receive(rt, block, s.end)
 }
 
 // A conversation with the board whose memory is lent, until its input ends or a read or a write fails.
-pub fn serve(memory: &mut [u8]) {
+pub fn serve(rt: &HostRuntime, memory: &mut [u8]) {
     let mut block_space = [0u8; BLOCK];
     let mut out_space = [0u8; ROOM];
     let block: &mut [u8] = &mut block_space;
@@ -34,7 +34,7 @@ pub fn serve(memory: &mut [u8]) {
     // A proved loop has to end: it counts down from a number that no run uses up.
     let mut turns = u64::MAX;
     while 0 < turns {
-        match more_input(s, block) {
+        match more_input(rt, s, block) {
             Input::Filled(end) => {
                 s = converse(
                     s, end, block, memory, &mut quads, &mut bank, out, &mut tally,
@@ -42,12 +42,12 @@ pub fn serve(memory: &mut [u8]) {
             }
             Input::Ended => {
                 let place = finish(s, block, memory, &mut quads, &mut bank, out, &mut tally);
-                send(out, place);
+                send(rt, out, place);
                 return;
             }
             Input::Failed => return,
         }
-        if !send(out, s.place) {
+        if !send(rt, out, s.place) {
             return;
         }
         turns = turns - 1;

@@ -8,7 +8,7 @@ use lib.ListN.{length, take, drop, take-append-drop}
 use lib.Dec.{ltb}
 use borrow.Author.Tests.{ltb-true, ltb-false}
 use contract.Lifetimes.{Lfts}
-use denote.Ref.{Bor}
+use Rattle.std.specs.Borrow.{MutBor}
 use Rattle.word.proofs.CaseLaws.{by_test}
 use Rattle.hex_digits.specs.Output.{output}
 use Rattle.hex_digits.proofs.OutputLaws.{length_printed}
@@ -59,14 +59,14 @@ whole_from xs h e =
 
 -- ---- calls to the end
 
-module _ (ls : Lfts 1) (r : Bor (List ℕ)) where
+module _ (ls : Lfts 1) (r : MutBor (List ℕ)) where
   -- the answer that the contract has, of a buffer that holds o
   abbrev call : ℕ → List ℕ → PortionCall
   call p o =
       let z = portion_of p o in
       record {
         lifetimes = ls;
-        lent = record { ref_ptr = r.ref_ptr; ghost_name = r.name; now = o };
+        lent = record { ref_ptr = r.ref_ptr; ghost_name = r.ghost_name; now = o };
         answer = record { next = z.next; place = z.output.place };
         left = z.output.bytes;
       }

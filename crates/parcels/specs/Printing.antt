@@ -3,7 +3,7 @@
 -- Assumes nothing.
 use Rattle.std.specs.Prelude.{ℕ, ◌<◌, ◌≤◌, ◌≡◌, List, [], ◌∷◌, ◌++◌, length, take}
 use contract.Lifetimes.{Lfts}
-use Rattle.std.specs.Borrow.{Bor}
+use Rattle.std.specs.Borrow.{MutBor}
 use denote.Triple.Entry.{Args}
 use denote.Triple.Clauses.{Lasts, at_exit}
 use Rattle.parcels_listing.specs.declared.ListState.{ListState}
@@ -16,7 +16,7 @@ use Rattle.parcels_listing.proofs.put_lines.Reads as put-lines-contract
 -- buffer then holds
 pub record PortionCall : Type 0 where
   pub lifetimes : Lfts 1
-  pub lent : Bor (List ℕ)
+  pub lent : MutBor (List ℕ)
   pub answer : ListState
   pub left : List ℕ
 
@@ -66,4 +66,4 @@ pub record Printing : Type 0 where
   pub whole : (xs : List PortionCall) → CallsFrom 0 xs → parcel_count ≤ next_after 0 xs → IsList (handed_on xs)
   -- a buffer with room for a line takes the program further, and there are calls to the end
   pub further : (p : ℕ) (x : PortionCall) → p < parcel_count → line_size ≤ length x.lent.now → PutLines p x → p < x.answer.next
-  pub to_end : Lfts 1 → (o : Bor (List ℕ)) → line_size ≤ length o.now → CallsToEnd 0 o.now
+  pub to_end : Lfts 1 → (o : MutBor (List ℕ)) → line_size ≤ length o.now → CallsToEnd 0 o.now

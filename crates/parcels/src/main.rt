@@ -9,20 +9,20 @@ use parcels_listing::{PARCEL_COUNT, put_lines};
 const BLOCK: usize = 32768;
 
 // By a buffer that has room for a line, so that each portion goes on.
-fn print_list(out: &mut [u8])
+fn print_list(rt: &HostRuntime, out: &mut [u8])
     requires { line_size ≤ length out.old }
 {
     let mut next = 0;
     while next < PARCEL_COUNT {
         let s = put_lines(next, out);
-        if !send(out, s.place) {
+        if !send(rt, out, s.place) {
             return;
         }
         next = s.next;
     }
 }
 
-fn main() {
+fn main(rt: HostRuntime) {
     let mut space = [0u8; BLOCK];
-    print_list(&mut space);
+    print_list(&rt, &mut space);
 }

@@ -3,6 +3,6 @@
 use records_conversion::Way;
 use records_loop::serve;
 
-fn main() {
-    serve(Way::In);
+fn main(rt: HostRuntime) {
+    serve(&rt, Way::In);
 }

@@ -7,7 +7,7 @@ use mathlib.Core.List.{List, [], ◌∷◌, ◌++◌, append_assoc, append-nil}
 use native.Mathlib.Omega.{arith}
 use lib.ListN.{length, take, drop, length-append, length-take}
 use lib.Seq.{take-length, take-append-add}
-use denote.Ref.{Bor}
+use Rattle.std.specs.Borrow.{Bor, MutBor}
 use Rattle.word.proofs.CaseLaws.{by_test}
 use Rattle.hex_digits.specs.Output.{Output, output, written}
 use Rattle.hex_digits.proofs.OutputLaws.{length_written, printed_front}
@@ -154,8 +154,11 @@ conversion_serves ls ref w o input h g =
       writes = more_written (before_calls o) input [] call (to_write_last last_call) exchanged e (last_written (after_call call) last_call ended);
     })
   where
-    at : List ℕ → Bor (List ℕ)
-    at t = record { ref_ptr = ref.ptr; ghost_name = ref.name; now = t }
+    at : List ℕ → MutBor (List ℕ)
+    at t = record { ref_ptr = ref.ref_ptr; ghost_name = ref.ghost_name; now = t }
+
+    shown : List ℕ → Bor (List ℕ)
+    shown t = record { ref_ptr = ref.ref_ptr; now = t }
 
     after : ExchangeDone
     after = exchange_from w input (progress (output o 0) 0 false)
@@ -202,7 +205,7 @@ conversion_serves ls ref w o input h g =
         record {
           lifetimes = ls;
           state = state;
-          block = at after.kept;
+          block = shown after.kept;
           buffer = at after.progress.output.bytes;
           place = over.output.place;
           buffer_left = over.output.bytes;

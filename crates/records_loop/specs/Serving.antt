@@ -3,7 +3,7 @@
 -- Assumes nothing.
 use Rattle.std.specs.Prelude.{ℕ, suc, ◌≤◌, ◌≡◌, true, false, List, [], ◌∷◌, ◌++◌, length, take}
 use contract.Lifetimes.{Lfts}
-use Rattle.std.specs.Borrow.{Bor}
+use Rattle.std.specs.Borrow.{Bor, MutBor}
 use denote.Triple.Entry.{Args}
 use denote.Triple.Clauses.{Lasts, at_exit}
 use Rattle.lines.specs.Texts.{whole}
@@ -24,8 +24,8 @@ pub record ConvertCall : Type 0 where
   pub lifetimes : Lfts 2
   pub state : ConversionState
   pub end : ℕ
-  pub block : Bor (List ℕ)
-  pub buffer : Bor (List ℕ)
+  pub block : MutBor (List ℕ)
+  pub buffer : MutBor (List ℕ)
   pub answer : ConversionState
   pub block_left : List ℕ
   pub buffer_left : List ℕ
@@ -47,7 +47,7 @@ pub record FinishCall : Type 0 where
   pub lifetimes : Lfts 2
   pub state : ConversionState
   pub block : Bor (List ℕ)
-  pub buffer : Bor (List ℕ)
+  pub buffer : MutBor (List ℕ)
   pub place : ℕ
   pub buffer_left : List ℕ
 
@@ -138,5 +138,5 @@ pub record WritesWhole (w : Way) (o input : List ℕ) : Type 0 where
 
 abbrev pub ConversionServes : Type 0
 ConversionServes =
-    Lfts 2 → Bor (List ℕ) → (w : Way) (o input : List ℕ) → room_needed (length input) ≤ length o → room_needed (suc most_kept) ≤ length o
+    Lfts 2 → MutBor (List ℕ) → (w : Way) (o input : List ℕ) → room_needed (length input) ≤ length o → room_needed (suc most_kept) ≤ length o
     → WritesWhole w o input

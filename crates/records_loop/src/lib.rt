@@ -11,7 +11,7 @@ const BLOCK: usize = 65536;
 const ROOM: usize = 2 * BLOCK + 13;
 
 // Until the input ends, a line is refused, or a read or a write fails.
-pub fn serve(way: Way) {
+pub fn serve(rt: &HostRuntime, way: Way) {
     let mut block_space = [0u8; BLOCK];
     let mut out_space = [0u8; ROOM];
     let block: &mut [u8] = &mut block_space;
@@ -20,18 +20,18 @@ pub fn serve(way: Way) {
     // A proved loop has to end: it counts down from a number that no run uses up.
     let mut turns = u64::MAX;
     while 0 < turns {
-        match receive(block, s.end) {
+        match receive(rt, block, s.end) {
             Input::Filled(end) => {
                 s = convert(s, way, end, block, out);
             }
             Input::Ended => {
                 let place = finish(s, way, block, out);
-                send(out, place);
+                send(rt, out, place);
                 return;
             }
             Input::Failed => return,
         }
-        if !send(out, s.place) {
+        if !send(rt, out, s.place) {
             return;
         }
         if s.over {

@@ -179,8 +179,7 @@ fn main() {
     // A proved loop has to end: it counts down from a number that no run uses up.
     let mut turns = u64::MAX;
     while 0 < turns {
-        let got = libc::read(0, block);
-        let n = io::count(got, block);
+        let n = io::read_full(0, block);
         if n == 0 {
             return;
         }
