@@ -32,8 +32,7 @@ fn copy_out(memory: &[u8], a: usize, bytes: &mut [u8])
 }
 
 // Bytes from an address on: 0, or 8 where they reach past the end, and memory as it was.
-#[unsafe(no_mangle)]
-pub extern "C" fn hobbit_store(memory: &mut [u8], address: u32, bytes: &[u8]) -> u32
+pub fn hobbit_store(memory: &mut [u8], address: u32, bytes: &[u8]) -> u32
     ensures { store_result result memory.new ≡ stored_at memory.old address bytes.now }
 {
     let a = address as usize;
@@ -48,8 +47,7 @@ pub extern "C" fn hobbit_store(memory: &mut [u8], address: u32, bytes: &[u8]) ->
 }
 
 // As many bytes as there is room for, from an address on: 0, or 8 where they reach past the end, and the room as it was.
-#[unsafe(no_mangle)]
-pub extern "C" fn hobbit_load(memory: &[u8], address: u32, bytes: &mut [u8]) -> u32
+pub fn hobbit_load(memory: &[u8], address: u32, bytes: &mut [u8]) -> u32
     ensures { store_result result bytes.new ≡ loaded_from memory.now address bytes.old }
 {
     let a = address as usize;

@@ -21,8 +21,7 @@ use run::running::run_lent;
 const INTERFACE: u32 = 2;
 
 // The number of this interface: the header's HOBBIT_INTERFACE.
-#[unsafe(no_mangle)]
-pub extern "C" fn hobbit_interface() -> u32
+pub fn hobbit_interface() -> u32
     ensures { result ≡ interface }
 {
     INTERFACE
@@ -38,8 +37,7 @@ pub struct HobbitAnswer {
 }
 
 // A run: kind 03, or confined, kind 04.
-#[unsafe(no_mangle)]
-pub extern "C" fn hobbit_run(
+pub fn hobbit_run(
     memory: &mut [u8],
     registers: &mut [u32; 17],
     cache: &mut [u32; 64],
@@ -61,8 +59,7 @@ pub extern "C" fn hobbit_run(
 }
 
 // One step, events taken: 0, or the refusal that left all as it was.
-#[unsafe(no_mangle)]
-pub extern "C" fn hobbit_step(
+pub fn hobbit_step(
     memory: &mut [u8],
     registers: &mut [u32; 17],
     cache: &mut [u32; 64],
@@ -77,8 +74,7 @@ pub extern "C" fn hobbit_step(
 }
 
 // The blocks at the start: ID 0x0000003B, every other word 0.
-#[unsafe(no_mangle)]
-pub extern "C" fn hobbit_start(registers: &mut [u32; 17], cache: &mut [u32; 64])
+pub fn hobbit_start(registers: &mut [u32; 17], cache: &mut [u32; 64])
     ensures { cpu registers.new (quads_of cache.new) ≡ cpu start_bank zero_cache }
 {
     *registers = start_bank();
@@ -86,8 +82,7 @@ pub extern "C" fn hobbit_start(registers: &mut [u32; 17], cache: &mut [u32; 64])
 }
 
 // The register at a place of Table 1-1 set to a word: 0, or refusal 2 and the registers as they were.
-#[unsafe(no_mangle)]
-pub extern "C" fn hobbit_set(registers: &mut [u32; 17], place: u32, value: u32) -> u32
+pub fn hobbit_set(registers: &mut [u32; 17], place: u32, value: u32) -> u32
     ensures { setting result registers.new ≡ set_register registers.old place value }
 {
     set_register(registers, place, value)
@@ -102,8 +97,7 @@ pub struct HobbitWord {
 }
 
 // The register at a place of Table 1-1.
-#[unsafe(no_mangle)]
-pub extern "C" fn hobbit_get(registers: &[u32; 17], place: u32) -> HobbitWord
+pub fn hobbit_get(registers: &[u32; 17], place: u32) -> HobbitWord
     ensures { reading result.refusal result.value ≡ reading_of registers.now place }
 {
     let x = read_register(registers, place);
