@@ -48,7 +48,11 @@ pub(crate) fn tell(rt: &HostRuntime, what: &[u8], error: &Error) {
     };
     let _ = write!(words, "{error}");
     let all = &words.bytes[..];
-    let text = if words.length <= ROOM { &all[..words.length] } else { all };
+    let text = if words.length <= ROOM {
+        &all[..words.length]
+    } else {
+        all
+    };
     let _ = rt.stderr().write_all(what);
     let _ = rt.stderr().write_all(b": ");
     let _ = rt.stderr().write_all(&text[..before_number(text)]);

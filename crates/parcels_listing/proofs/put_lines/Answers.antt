@@ -17,12 +17,12 @@ pub loop-p-preserved : goal.loop-p-preserved
 loop-p-preserved c =
     let told = sym c.on_list.ensures in
     let before = c.loop-p.invariant in
-    elim c.if-on_list.branch
-      [ then-on_list+else-out-place-lt-LINE_SIZE w ↦
+    elim c.if-on_list.branch [
+      | then-on_list+else-out-place-lt-LINE_SIZE w ↦
           filled_as _ _ _ _ _ _ _ w.out-is w.place-is
           (another_line _ _ _ _ _ _ before (omega arith) (told ∙ w.if-on_list.true) (omega (arith, w.if-out-place-lt-LINE_SIZE.false)) w.put_line.ensures)
       | else-on_list w ↦ filled_as _ _ _ _ _ _ _ w.out-is w.place-is (passed_over _ _ _ _ _ before (omega arith) (told ∙ w.if-on_list.false))
-      ]
+    ]
 
 pub returns : goal.returns
 returns c = search (rules, portion_last)

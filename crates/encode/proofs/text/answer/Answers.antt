@@ -1,4 +1,3 @@
-
 use Rattle.encode.proofs.text.answer.Goals as goal
 
 pub returns-then-found : goal.returns-then-found

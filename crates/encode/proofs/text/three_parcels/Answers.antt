@@ -1,4 +1,3 @@
-
 use Rattle.encode.proofs.text.three_parcels.Goals as goal
 
 pub returns-then-prefix : goal.returns-then-prefix

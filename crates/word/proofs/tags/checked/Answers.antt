@@ -1,4 +1,3 @@
-
 use Rattle.word.proofs.tags.checked.Goals as goal
 
 pub returns-then-s : goal.returns-then-s
