@@ -1,4 +1,4 @@
-/* The proved Hobbit machine, for C: libhobbit.a, made by `rt staticlib hobbit` (target/staticlib/libhobbit.a).
+/* The proved Hobbit machine, for C: libhobbit.a, made by `tools/build hobbit` (target/staticlib/libhobbit.a).
  *
  * Nothing is kept between calls: the caller lends the memory and two blocks of words, which hold the whole machine.
  *   registers  17 words: the thirteen registers in the order of Table 1-1 (CONFIG, FAULT, ID, ISP, MSP, PC, PSW, SHAD, SP,

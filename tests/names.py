@@ -57,6 +57,7 @@ def layers():
     wrong = []
     for line in (ROOT / 'crates.txt').read_text(encoding='utf-8').splitlines():
         crate, colon, named = line.partition(':')
+        crate = crate.split()[0] if crate.split() else crate      # `NAME staticlib`
         if not colon or crate.startswith('#'):
             continue
         if crate not in order:

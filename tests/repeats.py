@@ -2,12 +2,12 @@
 """repeats.py [LINES]: what stands twice, and what nothing uses. Prints a row for each and ends with status 1 if there is one.
 
 repeated   LINES (10) or more equal lines in two places of specs/, src/ and the law files proofs/*.antt. Imports, comments,
-           parameters and thin lines (a bracket, a word of three letters) don't count. Proof.antt files are left out: their needs have a form
+           parameters and thin lines (a bracket, a word of three letters) don't count. Answers and invariants are left out: they have a form
            of their own. ALLOWED names the runs that may stand, each with its reason.
 uncited    a name of specs/*.antt or proofs/*.antt that stands nowhere but in its own definition: not in its file, not in a
            file that imports its module, not in tests/, not in backquotes in docs/. Imports alone don't count. Fields and
            constructors aren't looked at. READ names files that are for readers alone.
-unused     an imported name that stands nowhere else in its file; `do` uses _>>=_.
+unused     an imported name that stands nowhere else in its file; `do` uses ◌>>=◌.
 """
 import re
 import sys
@@ -32,7 +32,8 @@ READ = {
 }
 
 THIN = 4        # characters
-MODULE = re.compile(r'Rattle·(\w+)(?:·\w+)?\.(specs|proofs)\.(\w+)')
+TRAITS = {'Read', 'Write', 'Print'}     # imported for their methods
+MODULE = re.compile(r'Rattle\.(\w+)\.(specs|proofs)\.(\w+)')
 DECLARED = re.compile(r'( *)(?:(?:pub|abbrev|unfoldable|data|record|infix\w* \d+) )*([^\s:(){}=.]+(?: [^\s:(){}=.]+)*)'
                       r'(?: *[({][^:]*:[^)}]*[)}])* *: ')
 IMPORT = re.compile(r' *(?:pub |ghost )*use ')
@@ -51,10 +52,14 @@ class File:
     def __init__(self, name, text):
         self.name, self.path = name, Path(name)         # from crates/ on
         self.imports, self.code = [], []
+        begun = None                                    # an import over several lines
         for number, line in enumerate(text.splitlines(), 1):
             line = re.sub(r'(^|\s)%s.*' % COMMENT[self.path.suffix], '', line).rstrip()
-            if IMPORT.match(line):
-                self.imports.append((number, line.strip()))
+            if begun or IMPORT.match(line):
+                begun = (begun or '') + (' ' if begun else '') + line.strip()
+                if begun.count('{') == begun.count('}'):
+                    self.imports.append((number, begun.replace(', }', '}').replace(',}', '}')))
+                    begun = None
             elif line:
                 self.code.append((number, line))
         self.words = {word for _, line in self.code for word in tokens(line)}
@@ -86,7 +91,7 @@ def tree():
 def runs(files, least):
     """Pairs of places with `least` or more equal lines: count, file, first line, last line, the same of the other."""
     lines, places = {}, defaultdict(list)
-    for f in (f for f in files if f.path.name != 'Proof.antt'):
+    for f in (f for f in files if f.path.name not in ('Answers.antt', 'Invariants.antt')):
         kept = [(' '.join(text.split()), number) for number, text in f.code]
         lines[f.name] = kept = [(text, number) for text, number in kept
                                 if len(text) >= THIN and not re.match(r'(pub )?mod |\w+: [^=]*,$', text)]
@@ -133,9 +138,9 @@ def definitions(f):
 
 def stands(name, words):
     """Whether a name is among the words, an operator by its parts, and a list of witnesses (tests/names.py) by its own name."""
-    operator = [part for part in name.split('_') if part]
-    return (name in words or (name.endswith('-checked') and name.removesuffix('-checked') in words)
-            or ('_' in name and all(part in words for part in operator)) or (name == '_>>=_' and 'do' in words))
+    operator = [part for part in name.split('◌') if part]
+    return (name in words or (name.endswith('_checked') and name.removesuffix('_checked') in words)
+            or ('◌' in name and all(part in words for part in operator)) or (name == '◌>>=◌' and 'do' in words))
 
 
 def uncited(files):
@@ -175,7 +180,8 @@ def unused(files):
         for number, text in f.imports:
             if text.startswith('pub '):
                 continue
-            rows += ['unused: %s:%d %s' % (f.name, number, name) for name, here in imported(text) if not stands(here, f.words)]
+            rows += ['unused: %s:%d %s' % (f.name, number, name) for name, here in imported(text)
+                     if not stands(here, f.words) and name not in TRAITS]
     return rows
 
 

@@ -70,6 +70,9 @@ def renaming():
         for line in path.read_text(encoding='utf-8').splitlines():
             seen.update(TOKEN.findall(code_of(line)))
     taken = {snake(n) for n in seen if camel(n) and n[0].islower()} | {n for n in own if '_' in n}
+    for path in CRATES.rglob('*'):        # other names that imports give
+        if path.suffix in ('.rt', '.antt') and path.is_file():
+            own.update(re.findall(r'\bas ([a-z]\w*[A-Z]\w*)', path.read_text(encoding='utf-8')))
     names = {}
     for name in sorted(own):
         new = snake(name)
@@ -99,7 +102,8 @@ def antt(text, names):
 
 
 def rattle(text, names):
-    """Code has no such names but in its clauses and `ghost use` lines; strings are left."""
+    """Code has no such names but in its clauses and `ghost use` lines, and no law's; strings are left."""
+    names = {old: new for old, new in names.items() if not new.endswith('_law')}
     lines = []
     for line in text.split('\n'):
         at = line.find('//')
@@ -143,6 +147,8 @@ def main():
     for name, where in MERGED.items():
         for file in where or []:
             path = CRATES / file
+            if not path.exists():       # in another revision
+                continue
             path.write_text(antt(path.read_text(encoding='utf-8'), {name: name + '_law'}), encoding='utf-8')
     for path in sorted(CRATES.rglob('*')):
         kinds = {'.antt': antt, '.rt': rattle, '.edit': edit}

@@ -11,7 +11,7 @@ use Rattle.access_spec.specs.Access.{Access, read, write, regime_of}
 use Rattle.machine.specs.Registers.{msp}
 use Rattle.machine.specs.Cache.{cache_word}
 use Rattle.machine.specs.Status.{Cpu, reg, regime}
-use Rattle.datapath.specs.Moves.{flush_word, flush_quad, may_flush, flush, fill_word, filled, fill_quad, may_fill, fill}
+use Rattle.datapath.specs.Moves.{flush_word, flush_quad, may_flush, flush, fill_word, fill_quad, may_fill, fill}
 use Rattle.invariants.proofs.AccessLaws.{plus_value, minus_value, request_part}
 use Rattle.access_spec.proofs.BoundedLaws.{Any}
 use Rattle.invariants.proofs.RuleLaws.{Rules, Value, Part, bind, more, gives, either, some}

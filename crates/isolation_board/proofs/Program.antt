@@ -8,7 +8,6 @@ use native.Mathlib.Omega.{arith}
 use lib.ListN.{length, take, drop, length-take}
 use lib.Seq.{take-length, take-append_seam}
 use Rattle.run_spec.specs.Run.{board}
-use Rattle.hex_digits.specs.Output.{output}
 use Rattle.hex_digits.proofs.OutputLaws.{length_written, printed_front}
 use Rattle.lines.specs.Texts.{lines_of, next, size_of, last_line, whole}
 use Rattle.board_lines.specs.Printouts.{start_tally, lines_added}

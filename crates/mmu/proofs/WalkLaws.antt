@@ -11,7 +11,7 @@ use borrow.Author.Tests.{le-leb, lt-leb, eq-eqb, ne_eqb}
 use Rattle.word.specs.Fields.{field_of, set_of}
 use Rattle.memory.specs.Exceptions.{walk_fault}
 use Rattle.memory.specs.Answers.{answer_of}
-use Rattle.memory.specs.Bytes.{Memory, byte_at, number, load}
+use Rattle.memory.specs.Bytes.{Memory, byte_at, load}
 use Rattle.memory.proofs.AnswerLaws.{load_held, load_inside, load_outside}
 use Rattle.mmu.specs.declared.AccessKind.{AccessKind}
 use Rattle.mmu.specs.declared.Segment.{Segment}

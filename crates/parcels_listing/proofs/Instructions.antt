@@ -15,7 +15,7 @@ use Rattle.isa.specs.declared.Instruction.{Instruction}
 use Rattle.isa.specs.declared.Instruction.TheVariants as instruction
 use Rattle.isa.specs.declared.Text.{Text}
 use Rattle.isa.specs.declared.Decoded.{Decoded}
-use Rattle.isa.specs.declared.Decoded.TheVariants.{Is, Unimplemented}
+use Rattle.isa.specs.declared.Decoded.TheVariants.{Is}
 use Rattle.isa.specs.Lengths.{short_length, following}
 use Rattle.isa.specs.Fields.{short_opcode}
 use Rattle.isa.specs.Tables.{short_of}

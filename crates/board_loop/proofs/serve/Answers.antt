@@ -1,7 +1,5 @@
-use mathlib.Core.Path.{◌≡◌, ◌∙◌}
+use mathlib.Core.Path.{◌∙◌}
 use native.Mathlib.Omega.{arith}
-use lib.ListN.{length}
-use Rattle.std.proofs.Common.{rules}
 use Rattle.board_loop.proofs.serve.Goals as goal
 
 pub overflow_sub-turns : goal.overflow_sub-turns

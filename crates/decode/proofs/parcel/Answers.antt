@@ -1,6 +1,5 @@
 use mathlib.Core.Path.{sym}
 use lib.ListN.{get_or-eq_default}
-use Rattle.std.proofs.Common.{rules}
 use Rattle.decode.proofs.parcel.Goals as goal
 
 pub returns-else-i-s : goal.returns-else-i-s

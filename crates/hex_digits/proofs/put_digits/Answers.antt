@@ -1,6 +1,5 @@
 use native.Mathlib.Omega.{arith}
 use Rattle.hex_digits.proofs.DigitLaws.{digits_in, digits_out}
-use Rattle.std.proofs.Common.{rules}
 use Rattle.hex_digits.proofs.put_digits.Goals as goal
 
 pub returns-then-count-out : goal.returns-then-count-out

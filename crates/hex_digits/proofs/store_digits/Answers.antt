@@ -1,4 +1,4 @@
-use Rattle.hex_digits.proofs.DigitLaws.{DigitsFrom, no_digits, another_digit, every_digit}
+use Rattle.hex_digits.proofs.DigitLaws.{no_digits, another_digit, every_digit}
 use Rattle.std.proofs.Common.{rules}
 use Rattle.hex_digits.proofs.store_digits.Goals as goal
 

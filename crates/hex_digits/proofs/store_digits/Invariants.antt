@@ -1,5 +1,4 @@
-use Rattle.hex_digits.proofs.DigitLaws.{DigitsFrom, no_digits, another_digit, every_digit}
-use Rattle.std.proofs.Common.{rules}
+use Rattle.hex_digits.proofs.DigitLaws.{DigitsFrom}
 use Rattle.hex_digits.proofs.store_digits.Given as goal
 
 abbrev pub invariant-loop-i : goal.invariant-loop-i

@@ -1,6 +1,5 @@
 use mathlib.Core.Path.{refl}
 use Rattle.hobbit.proofs.Laws.{run_returned}
-use Rattle.std.proofs.Common.{rules}
 use Rattle.hobbit.proofs.hobbit_run.Goals as goal
 
 pub returns : goal.returns

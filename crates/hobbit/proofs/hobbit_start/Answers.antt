@@ -3,7 +3,6 @@ use Rattle.machine.specs.Status.{cpu}
 use Rattle.machine.specs.Cache.{quads_of}
 use Rattle.machine.specs.Registers.{Bank}
 use mathlib.Core.Path.{ap}
-use Rattle.std.proofs.Common.{rules}
 use Rattle.hobbit.proofs.hobbit_start.Goals as goal
 
 pub returns : goal.returns

@@ -1,5 +1,4 @@
 use Rattle.hobbit.proofs.Laws.{step_returned}
-use Rattle.std.proofs.Common.{rules}
 use Rattle.hobbit.proofs.hobbit_step.Goals as goal
 
 pub returns : goal.returns

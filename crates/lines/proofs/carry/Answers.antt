@@ -1,5 +1,4 @@
-use Prim.Native.Nat.{◌-◌}
-use Rattle.lines.proofs.CarryLaws.{Carrying, carrying_starts, carrying_more, carrying_all}
+use Rattle.lines.proofs.CarryLaws.{carrying_starts, carrying_more, carrying_all}
 use Rattle.std.proofs.Common.{rules}
 use Rattle.lines.proofs.carry.Goals as goal
 

@@ -1,6 +1,5 @@
 use Prim.Native.Nat.{◌-◌}
-use Rattle.lines.proofs.CarryLaws.{Carrying, carrying_starts, carrying_more, carrying_all}
-use Rattle.std.proofs.Common.{rules}
+use Rattle.lines.proofs.CarryLaws.{Carrying}
 use Rattle.lines.proofs.carry.Given as goal
 
 abbrev pub invariant-loop-k : goal.invariant-loop-k

@@ -1,6 +1,4 @@
-use Rattle.lines.proofs.SearchLaws.{Seeking, seeking_past, seeking_found, seeking_more, seeking_end}
-use lib.ListN.{length}
-use Prim.Native.Nat.{◌-◌}
+use Rattle.lines.proofs.SearchLaws.{seeking_past, seeking_found, seeking_more, seeking_end}
 use Rattle.std.proofs.Common.{rules}
 use Rattle.lines.proofs.newline_from.Goals as goal
 

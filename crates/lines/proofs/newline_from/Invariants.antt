@@ -1,7 +1,6 @@
-use Rattle.lines.proofs.SearchLaws.{Seeking, seeking_past, seeking_found, seeking_more, seeking_end}
+use Rattle.lines.proofs.SearchLaws.{Seeking}
 use lib.ListN.{length}
 use Prim.Native.Nat.{◌-◌}
-use Rattle.std.proofs.Common.{rules}
 use Rattle.lines.proofs.newline_from.Given as goal
 
 abbrev pub invariant-loop-i : goal.invariant-loop-i

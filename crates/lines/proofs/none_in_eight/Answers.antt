@@ -1,6 +1,5 @@
 use Rattle.lines.proofs.SearchLaws.{first_plain, next_plain}
 use native.Mathlib.Omega.{arith}
-use Rattle.std.proofs.Common.{rules}
 use Rattle.lines.proofs.none_in_eight.Goals as goal
 
 pub returns : goal.returns

@@ -1,7 +1,5 @@
-use Rattle.lines.proofs.SearchLaws.{Seeking, seeking_none, seeking_eight}
+use Rattle.lines.proofs.SearchLaws.{seeking_none, seeking_eight}
 use native.Mathlib.Omega.{arith}
-use Prim.Native.Nat.{◌-◌}
-use Rattle.std.proofs.Common.{rules}
 use Rattle.lines.proofs.skip.Goals as goal
 
 pub loop-i-init : goal.loop-i-init

@@ -1,7 +1,5 @@
-use Rattle.lines.proofs.SearchLaws.{Seeking, seeking_none, seeking_eight}
-use native.Mathlib.Omega.{arith}
+use Rattle.lines.proofs.SearchLaws.{Seeking}
 use Prim.Native.Nat.{◌-◌}
-use Rattle.std.proofs.Common.{rules}
 use Rattle.lines.proofs.skip.Given as goal
 
 abbrev pub invariant-loop-i : goal.invariant-loop-i

@@ -1,10 +1,7 @@
 use mathlib.Core.Path.{◌≡◌}
 use Prim.Native.Nat.{◌-◌}
-use native.Mathlib.Omega.{arith}
 use lib.ListN.{length}
 use Rattle.parcels_listing.specs.Listing.{parcel_count}
-use Rattle.parcels_listing.proofs.PortionLaws.{answer_further}
-use Rattle.std.proofs.Common.{rules}
 use Rattle.parcels.proofs.print_list.Given as goal
 
 abbrev pub invariant-loop-next : goal.invariant-loop-next

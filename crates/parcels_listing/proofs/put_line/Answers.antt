@@ -1,7 +1,6 @@
 use native.Mathlib.Omega.{arith}
 use lib.ListN.{length-set}
 use Rattle.parcels_listing.proofs.LineLaws.{line_put}
-use Rattle.std.proofs.Common.{rules}
 use Rattle.parcels_listing.proofs.put_line.Goals as goal
 
 pub shape_of-out : goal.shape_of-out

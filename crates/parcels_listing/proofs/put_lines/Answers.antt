@@ -1,8 +1,6 @@
 use mathlib.Core.Path.{sym, ◌∙◌}
-use Prim.Native.Nat.{◌-◌}
 use native.Mathlib.Omega.{arith}
-use Rattle.parcels_listing.specs.Listing.{parcel_count}
-use Rattle.parcels_listing.proofs.PortionLaws.{LinesIn, nothing_yet, filled_as, passed_over, another_line, portion_full, portion_last}
+use Rattle.parcels_listing.proofs.PortionLaws.{nothing_yet, filled_as, passed_over, another_line, portion_full, portion_last}
 use Rattle.std.proofs.Common.{rules}
 use Rattle.parcels_listing.proofs.put_lines.Goals as goal
 use Rattle.parcels_listing.proofs.put_lines.Goals.{then-on_list+else-out-place-lt-LINE_SIZE, else-on_list}

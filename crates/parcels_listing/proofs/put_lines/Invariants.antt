@@ -1,10 +1,6 @@
-use mathlib.Core.Path.{sym, ◌∙◌}
-use mathlib.Core.Logic.{⊎_elim}
 use Prim.Native.Nat.{◌-◌}
-use native.Mathlib.Omega.{arith}
 use Rattle.parcels_listing.specs.Listing.{parcel_count}
-use Rattle.parcels_listing.proofs.PortionLaws.{LinesIn, nothing_yet, filled_as, passed_over, another_line, portion_full, portion_last}
-use Rattle.std.proofs.Common.{rules}
+use Rattle.parcels_listing.proofs.PortionLaws.{LinesIn}
 use Rattle.parcels_listing.proofs.put_lines.Given as goal
 
 abbrev pub invariant-loop-p : goal.invariant-loop-p

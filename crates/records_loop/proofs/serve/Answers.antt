@@ -1,5 +1,4 @@
 use native.Mathlib.Omega.{arith}
-use Rattle.std.proofs.Common.{rules}
 use Rattle.records_loop.proofs.serve.Goals as goal
 
 pub loop-turns-init : goal.loop-turns-init

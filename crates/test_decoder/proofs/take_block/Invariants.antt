@@ -1,6 +1,5 @@
 use Prim.Native.Nat.{◌-◌}
 use lib.ListN.{length}
-use Rattle.std.proofs.Common.{rules}
 use Rattle.test_decoder.proofs.take_block.Given as goal
 
 abbrev pub invariant-loop-i : goal.invariant-loop-i

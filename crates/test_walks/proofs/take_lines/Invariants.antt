@@ -1,7 +1,6 @@
 use mathlib.Core.Path.{◌≡◌}
 use Prim.Native.Nat.{◌-◌}
 use lib.ListN.{length}
-use Rattle.std.proofs.Common.{rules}
 use Rattle.test_walks.proofs.take_lines.Given as goal
 
 abbrev pub invariant-loop-i : goal.invariant-loop-i

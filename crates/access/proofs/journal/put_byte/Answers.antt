@@ -1,6 +1,5 @@
 use lib.Seq.{set_out}
 use mathlib.Core.Path.{sym}
-use Rattle.std.proofs.Common.{rules}
 use Rattle.access.proofs.journal.put_byte.Goals as goal
 
 pub returns-else-i-m : goal.returns-else-i-m

@@ -1,6 +1,5 @@
 use mathlib.Core.Path.{refl}
 use Rattle.access.proofs.JournalLaws.{word_restored}
-use Rattle.std.proofs.Common.{rules}
 use Rattle.access.proofs.journal.restore.Goals as goal
 
 pub returns : goal.returns

@@ -1,4 +1,4 @@
-use Rattle.access.proofs.UndoLaws.{PuttingBack, putting_begun, putting_more, putting_end}
+use Rattle.access.proofs.UndoLaws.{putting_begun, putting_more, putting_end}
 use Rattle.std.proofs.Common.{rules}
 use Rattle.access.proofs.journal.undo.Goals as goal
 

@@ -1,5 +1,4 @@
-use Rattle.access.proofs.UndoLaws.{PuttingBack, putting_begun, putting_more, putting_end}
-use Rattle.std.proofs.Common.{rules}
+use Rattle.access.proofs.UndoLaws.{PuttingBack}
 use Rattle.access.proofs.journal.undo.Given as goal
 
 abbrev pub invariant-loop-i : goal.invariant-loop-i

@@ -1,5 +1,4 @@
 use Rattle.board_conversation.proofs.AnswerLaws.{run_answered}
-use Rattle.std.proofs.Common.{rules}
 use Rattle.board_conversation.proofs.answers.answer_run.Goals as goal
 
 pub returns : goal.returns

@@ -1,7 +1,5 @@
-use Rattle.board_conversation.proofs.ExchangeLaws.{Answering, answering_none, answering_long, answering_more, answering_over}
-use Rattle.board_conversation.specs.Code.{board_io_of}
-use Rattle.machine.specs.Status.{cpu}
-use Rattle.std.proofs.Common.{◌≡◌, ◌-◌, length, arith, rules}
+use Rattle.board_conversation.proofs.ExchangeLaws.{answering_none, answering_long, answering_more, answering_over}
+use Rattle.std.proofs.Common.{arith, rules}
 use Rattle.board_conversation.proofs.blocks.answer_block.Goals as goal
 
 pub loop-to-init : goal.loop-to-init

@@ -1,7 +1,7 @@
-use Rattle.board_conversation.proofs.ExchangeLaws.{Answering, answering_none, answering_long, answering_more, answering_over}
+use Rattle.board_conversation.proofs.ExchangeLaws.{Answering}
 use Rattle.board_conversation.specs.Code.{board_io_of}
 use Rattle.machine.specs.Status.{cpu}
-use Rattle.std.proofs.Common.{◌≡◌, ◌-◌, length, arith, rules}
+use Rattle.std.proofs.Common.{◌≡◌, ◌-◌, length}
 use Rattle.board_conversation.proofs.blocks.answer_block.Given as goal
 
 abbrev pub invariant-loop-to : goal.invariant-loop-to

@@ -1,5 +1,5 @@
 use Rattle.board_conversation.proofs.PartLaws.{rest_within, exchange_more, exchange_last}
-use Rattle.std.proofs.Common.{arith, rules}
+use Rattle.std.proofs.Common.{arith}
 use Rattle.board_conversation.proofs.exchanges.converse.Goals as goal
 
 pub overflow_add-from : goal.overflow_add-from

@@ -1,5 +1,4 @@
 use Rattle.board_conversation.proofs.PartLaws.{none_left, one_left}
-use Rattle.std.proofs.Common.{rules}
 use Rattle.board_conversation.proofs.exchanges.finish.Goals as goal
 
 pub returns-then-f-e : goal.returns-then-f-e

@@ -1,4 +1,4 @@
-use Rattle.std.proofs.Common.{arith, rules}
+use Rattle.std.proofs.Common.{arith}
 use Rattle.board_lines.proofs.AnswerLaws.{refusal_in, refusal_out}
 use Rattle.board_lines.proofs.answers.put_refusal.Goals as goal
 

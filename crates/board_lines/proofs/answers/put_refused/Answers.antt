@@ -1,4 +1,4 @@
-use Rattle.std.proofs.Common.{arith, rules}
+use Rattle.std.proofs.Common.{arith}
 use Rattle.board_lines.proofs.AnswerLaws.{refused_in_law, refused_out}
 use Rattle.board_lines.proofs.answers.put_refused.Goals as goal
 

@@ -1,4 +1,4 @@
-use Rattle.std.proofs.Common.{arith, length-set, rules}
+use Rattle.std.proofs.Common.{arith}
 use Rattle.board_lines.proofs.AnswerLaws.{totals_in, totals_out}
 use Rattle.board_lines.proofs.answers.put_totals.Goals as goal
 

@@ -1,5 +1,4 @@
 use Rattle.board_lines.proofs.AnswerLaws.{word_written}
-use Rattle.std.proofs.Common.{rules}
 use Rattle.board_lines.proofs.answers.put_word.Goals as goal
 
 pub returns : goal.returns

@@ -1,4 +1,3 @@
-use Rattle.std.proofs.Common.{arith, length-set, rules}
 use Rattle.board_lines.proofs.AnswerLaws.{refused_written}
 use Rattle.board_lines.proofs.answers.write_refused.Goals as goal
 

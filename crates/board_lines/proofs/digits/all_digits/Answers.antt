@@ -1,5 +1,5 @@
-use Rattle.board_lines.proofs.DigitLaws.{Read, read_none, read_more, read_bad, read_all, both_ends}
-use Rattle.std.proofs.Common.{◌-◌, arith, rules}
+use Rattle.board_lines.proofs.DigitLaws.{read_none, read_more, read_bad, read_all, both_ends}
+use Rattle.std.proofs.Common.{arith}
 use Rattle.board_lines.proofs.digits.all_digits.Goals as goal
 
 pub returns-then-n-lt16 : goal.returns-then-n-lt16

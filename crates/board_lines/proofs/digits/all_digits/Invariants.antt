@@ -1,5 +1,5 @@
-use Rattle.board_lines.proofs.DigitLaws.{Read, read_none, read_more, read_bad, read_all, both_ends}
-use Rattle.std.proofs.Common.{◌-◌, arith, rules}
+use Rattle.board_lines.proofs.DigitLaws.{Read}
+use Rattle.std.proofs.Common.{◌-◌}
 use Rattle.board_lines.proofs.digits.all_digits.Given as goal
 
 abbrev pub invariant-loop-i : goal.invariant-loop-i

@@ -1,6 +1,6 @@
 use Rattle.hex_digits.proofs.DigitLaws.{digit_at}
 use Rattle.board_lines.proofs.DigitLaws.{digit_told, number_2}
-use Rattle.std.proofs.Common.{◌+◌, refl, arith, rules}
+use Rattle.std.proofs.Common.{◌+◌, refl, arith}
 use Rattle.board_lines.proofs.digits.byte_at.Goals as goal
 
 pub overflow_mul-result : goal.overflow_mul-result

@@ -1,5 +1,5 @@
 use Rattle.board_lines.proofs.DigitLaws.{one_digit, next_digit}
-use Rattle.std.proofs.Common.{arith, rules}
+use Rattle.std.proofs.Common.{arith}
 use Rattle.board_lines.proofs.digits.eight_digits.Goals as goal
 
 pub returns : goal.returns

@@ -1,5 +1,5 @@
-use Rattle.board_lines.proofs.DigitLaws.{Read, one_digit, read_none, read_more, read_bad, read_through}
-use Rattle.std.proofs.Common.{◌-◌, length, arith, rules}
+use Rattle.board_lines.proofs.DigitLaws.{one_digit, read_none, read_more, read_bad, read_through}
+use Rattle.std.proofs.Common.{arith}
 use Rattle.board_lines.proofs.digits.few_digits.Goals as goal
 
 pub loop-i-init : goal.loop-i-init

@@ -1,5 +1,5 @@
-use Rattle.board_lines.proofs.DigitLaws.{Read, one_digit, read_none, read_more, read_bad, read_through}
-use Rattle.std.proofs.Common.{◌-◌, length, arith, rules}
+use Rattle.board_lines.proofs.DigitLaws.{Read}
+use Rattle.std.proofs.Common.{◌-◌, length}
 use Rattle.board_lines.proofs.digits.few_digits.Given as goal
 
 abbrev pub invariant-loop-i : goal.invariant-loop-i

@@ -1,5 +1,4 @@
 use Rattle.board_lines.proofs.DigitLaws.{next_eight}
-use Rattle.std.proofs.Common.{rules}
 use Rattle.board_lines.proofs.digits.sixteen_digits.Goals as goal
 
 pub returns : goal.returns

@@ -1,5 +1,5 @@
 use Rattle.board_lines.proofs.DigitLaws.{digit_number, no_digit}
-use Rattle.std.proofs.Common.{sym, ◌∙◌, rules}
+use Rattle.std.proofs.Common.{sym, ◌∙◌}
 use Rattle.board_lines.proofs.digits.value.Goals as goal
 
 pub returns-then-is_digit : goal.returns-then-is_digit

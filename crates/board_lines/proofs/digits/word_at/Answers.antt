@@ -1,5 +1,4 @@
 use Rattle.board_lines.proofs.DigitLaws.{number_8}
-use Rattle.std.proofs.Common.{rules}
 use Rattle.board_lines.proofs.digits.word_at.Goals as goal
 
 pub returns : goal.returns

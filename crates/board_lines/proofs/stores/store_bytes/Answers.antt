@@ -1,5 +1,5 @@
-use Rattle.std.proofs.Common.{◌-◌, rules}
-use Rattle.board_lines.proofs.StoreLaws.{Storing, storing_none, storing_more, storing_all}
+use Rattle.std.proofs.Common.{rules}
+use Rattle.board_lines.proofs.StoreLaws.{storing_none, storing_more, storing_all}
 use Rattle.board_lines.proofs.stores.store_bytes.Goals as goal
 
 pub loop-k-init : goal.loop-k-init

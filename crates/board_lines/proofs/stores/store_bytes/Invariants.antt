@@ -1,5 +1,5 @@
-use Rattle.std.proofs.Common.{◌-◌, rules}
-use Rattle.board_lines.proofs.StoreLaws.{Storing, storing_none, storing_more, storing_all}
+use Rattle.std.proofs.Common.{◌-◌}
+use Rattle.board_lines.proofs.StoreLaws.{Storing}
 use Rattle.board_lines.proofs.stores.store_bytes.Given as goal
 
 abbrev pub invariant-loop-k : goal.invariant-loop-k

@@ -1,5 +1,4 @@
 use Rattle.board_lines.proofs.TotalsLaws.{run_kept, refused_run_kept}
-use Rattle.std.proofs.Common.{rules}
 use Rattle.board_lines.proofs.totals.add_run.Goals as goal
 
 pub returns-then-stop-eq-REFUSED_STOP : goal.returns-then-stop-eq-REFUSED_STOP

@@ -1,5 +1,4 @@
 use mathlib.Core.Path.{sym}
-use Rattle.std.proofs.Common.{rules}
 use Rattle.datapath.proofs.faults.set_fault.Goals as goal
 
 pub returns-then-e : goal.returns-then-e

@@ -1,7 +1,6 @@
 use Rattle.datapath.proofs.OperandLaws.{after_text}
 use Rattle.access_spec.specs.Journal.{journaled}
 use Rattle.machine.specs.Status.{cpu}
-use Rattle.std.proofs.Common.{rules}
 use Rattle.datapath.proofs.text.fetch_after.Goals as goal
 
 pub returns : goal.returns

@@ -3,7 +3,6 @@ use native.Mathlib.Omega.{arith}
 use Rattle.machine.specs.Status.{cpu}
 use Rattle.access_spec.specs.Journal.{journaled}
 use Rattle.datapath.proofs.OperandLaws.{operands_as, operands_none, operands_first, operands_three, operands_second, operands_five}
-use Rattle.std.proofs.Common.{rules}
 use Rattle.datapath.proofs.text.fetch_operands.Goals as goal
 
 pub returns-then-form-lt2 : goal.returns-then-form-lt2

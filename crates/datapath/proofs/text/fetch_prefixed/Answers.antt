@@ -1,7 +1,6 @@
 use Rattle.datapath.proofs.OperandLaws.{prefixed_bad, prefixed_text}
 use Rattle.access_spec.specs.Journal.{journaled}
 use Rattle.machine.specs.Status.{cpu}
-use Rattle.std.proofs.Common.{rules}
 use Rattle.datapath.proofs.text.fetch_prefixed.Goals as goal
 
 pub returns-then-x-ge-EXCEPTION : goal.returns-then-x-ge-EXCEPTION

@@ -1,7 +1,6 @@
 use Rattle.access_spec.specs.Journal.{journaled}
 use Rattle.machine.specs.Status.{cpu}
 use Rattle.datapath.proofs.TextLaws.{two_first, two_second, two_both}
-use Rattle.std.proofs.Common.{rules}
 use Rattle.datapath.proofs.text.fetch_two.Goals as goal
 
 pub returns-then-x-ge-EXCEPTION : goal.returns-then-x-ge-EXCEPTION

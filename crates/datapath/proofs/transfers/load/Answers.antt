@@ -1,6 +1,5 @@
 use Rattle.datapath.proofs.PartLaws.{load_fault, load_done}
 use Rattle.access_spec.specs.Journal.{journaled}
-use Rattle.std.proofs.Common.{rules}
 use Rattle.datapath.proofs.transfers.load.Goals as goal
 
 pub returns-then-x-ge-EXCEPTION : goal.returns-then-x-ge-EXCEPTION

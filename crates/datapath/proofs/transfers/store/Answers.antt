@@ -1,6 +1,5 @@
 use Rattle.datapath.proofs.PartLaws.{store_fault, store_done}
 use Rattle.access_spec.specs.Journal.{journaled}
-use Rattle.std.proofs.Common.{rules}
 use Rattle.datapath.proofs.transfers.store.Goals as goal
 
 pub returns-then-x-ge-EXCEPTION : goal.returns-then-x-ge-EXCEPTION

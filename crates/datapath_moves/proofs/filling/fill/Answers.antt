@@ -1,7 +1,5 @@
-use Rattle.datapath_moves.proofs.FillLaws.{Filling, filling_begun, filling_end, filling_enough, filling_more, filling_fault}
+use Rattle.datapath_moves.proofs.FillLaws.{filling_begun, filling_end, filling_enough, filling_more, filling_fault}
 use Rattle.access.specs.Followed.{regime_for}
-use mathlib.Core.Path.{◌∙◌}
-use Rattle.std.proofs.Common.{rules}
 use Rattle.datapath_moves.proofs.filling.fill.Goals as goal
 
 pub loop-n-init : goal.loop-n-init

@@ -1,5 +1,4 @@
 use Rattle.datapath_moves.proofs.FillLaws.{quad_at}
-use Rattle.std.proofs.Common.{rules}
 use Rattle.datapath_moves.proofs.filling.fill_quad.Goals as goal
 
 pub fill_found-requires : goal.fill_found-requires

@@ -1,5 +1,4 @@
 use Rattle.datapath_moves.proofs.FillLaws.{words_stopped, words_filled}
-use Rattle.std.proofs.Common.{rules}
 use Rattle.datapath_moves.proofs.filling.fill_words.Goals as goal
 
 pub returns-then-x-ge-EXCEPTION : goal.returns-then-x-ge-EXCEPTION

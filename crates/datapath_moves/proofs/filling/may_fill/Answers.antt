@@ -1,5 +1,4 @@
 use mathlib.Core.Path.{refl}
-use Rattle.std.proofs.Common.{rules}
 use Rattle.datapath_moves.proofs.filling.may_fill.Goals as goal
 
 pub returns : goal.returns

@@ -6,7 +6,6 @@ use Rattle.access_spec.specs.Journal.{journaled}
 use Rattle.datapath.proofs.PartLaws.{fault_bank}
 use Rattle.datapath_moves.proofs.FillLaws.{fill_first, fill_second, fill_third, fill_fourth, quad_filled, by_answer, quad_as, read_stopped, read_whole}
 use Rattle.machine.specs.Status.{cpu}
-use Rattle.std.proofs.Common.{rules}
 use Rattle.datapath_moves.proofs.filling.read_words.Goals as goal
 
 pub returns-then-x0-ge-EXCEPTION : goal.returns-then-x0-ge-EXCEPTION

@@ -1,6 +1,4 @@
-use Rattle.datapath_moves.proofs.FlushLaws.{Flushing, flushing_begun, flushing_end, flushing_enough, flushing_more, flushing_fault}
-use mathlib.Core.Path.{◌∙◌}
-use Rattle.std.proofs.Common.{rules}
+use Rattle.datapath_moves.proofs.FlushLaws.{flushing_begun, flushing_end, flushing_enough, flushing_more, flushing_fault}
 use Rattle.datapath_moves.proofs.flushing.flush.Goals as goal
 
 pub loop-n-init : goal.loop-n-init

@@ -1,7 +1,5 @@
 use Rattle.datapath_moves.proofs.FlushLaws.{found_flushed}
 use Rattle.access_spec.specs.Journal.{journaled}
-use mathlib.Core.Path.{◌∙◌}
-use Rattle.std.proofs.Common.{rules}
 use Rattle.datapath_moves.proofs.flushing.flush_found.Goals as goal
 
 pub returns : goal.returns

@@ -1,7 +1,6 @@
 use Rattle.datapath_moves.proofs.FlushLaws.{regime_found}
 use Rattle.datapath_moves.proofs.FillLaws.{quad_at}
 use mathlib.Core.Path.{refl}
-use Rattle.std.proofs.Common.{rules}
 use Rattle.datapath_moves.proofs.flushing.flush_quad.Goals as goal
 
 pub flush_found-y-requires : goal.flush_found-y-requires

@@ -1,7 +1,6 @@
 use Rattle.datapath_moves.proofs.FlushLaws.{quad_first, quad_second, quad_third, quad_fourth, quad_flushed}
 use Rattle.access_spec.specs.Journal.{journaled}
-use mathlib.Core.Path.{refl, ◌∙◌}
-use Rattle.std.proofs.Common.{rules}
+use mathlib.Core.Path.{refl}
 use Rattle.datapath_moves.proofs.flushing.flush_words.Goals as goal
 
 pub returns-then-x0-ge-EXCEPTION : goal.returns-then-x0-ge-EXCEPTION

@@ -1,4 +1,3 @@
-use Rattle.std.proofs.Common.{rules}
 use Rattle.decode.proofs.fields.middle.Goals as goal
 
 pub returns : goal.returns

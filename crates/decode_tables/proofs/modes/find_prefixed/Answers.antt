@@ -1,6 +1,5 @@
 use Prim.Native.Nat.{zero-le}
 use mathlib.Core.Path.{◌≡◌, ap, sym, refl, ◌∙◌}
-use Rattle.std.proofs.Common.{rules}
 use lib.ListN.{get_or-eq_default}
 use Rattle.word.proofs.MatchLaws.{climb, within}
 use Rattle.isa.specs.declared.ModeEntry.TheVariants as mode

@@ -1,4 +1,3 @@
-use Rattle.std.proofs.Common.{rules}
 use Rattle.encode.proofs.operands.is_moved.Goals as goal
 
 pub returns : goal.returns

@@ -1,4 +1,3 @@
-use Rattle.std.proofs.Common.{rules}
 use Rattle.encode.proofs.values.carries_value.Goals as goal
 
 pub returns : goal.returns

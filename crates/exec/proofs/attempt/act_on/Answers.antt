@@ -5,7 +5,6 @@ use Rattle.access_spec.specs.Journal.{journaled}
 use Rattle.machine.specs.Status.{cpu}
 use Rattle.exec_spec.specs.Execute.{traced}
 use Rattle.run_spec.specs.Run.{is_kcall}
-use Rattle.std.proofs.Common.{rules}
 use Rattle.exec.proofs.attempt.act_on.Goals as goal
 
 pub returns-then-stops : goal.returns-then-stops

@@ -4,7 +4,6 @@ use Rattle.isa.specs.declared.Decoded.{Decoded}
 use Rattle.step_spec.specs.Step.{dispatch}
 use Rattle.access_spec.specs.Journal.{journaled}
 use Rattle.machine.specs.Status.{cpu}
-use Rattle.std.proofs.Common.{rules}
 use Rattle.exec.proofs.attempt.act_on_answer.Goals as goal
 
 pub returns-in-Is : goal.returns-in-Is

@@ -1,7 +1,6 @@
 use Rattle.exec.proofs.ActLaws.{unimplemented_stops, sequence_stops, sequence_ends}
 use Rattle.access_spec.specs.Journal.{journaled}
 use Rattle.machine.specs.Status.{cpu}
-use Rattle.std.proofs.Common.{rules}
 use Rattle.exec.proofs.attempt.act_unimplemented.Goals as goal
 
 pub returns-then-confined : goal.returns-then-confined

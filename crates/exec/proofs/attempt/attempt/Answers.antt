@@ -1,7 +1,5 @@
 use Rattle.exec.proofs.AttemptLaws.{fetch_stops, fetch_goes}
-use mathlib.Core.Path.{◌∙◌}
 use Rattle.access_spec.specs.Journal.{journaled}
-use Rattle.std.proofs.Common.{rules}
 use Rattle.exec.proofs.attempt.attempt.Goals as goal
 
 pub returns-then-f-ne0 : goal.returns-then-f-ne0

@@ -1,5 +1,4 @@
 use Rattle.exec.proofs.ActLaws.{classed_low, classed_high}
-use Rattle.std.proofs.Common.{rules}
 use Rattle.exec.proofs.attempt.class_of.Goals as goal
 
 pub returns-then-k-lt2 : goal.returns-then-k-lt2

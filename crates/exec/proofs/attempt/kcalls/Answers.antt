@@ -2,7 +2,6 @@ use mathlib.Core.Path.{sym, ap}
 use Rattle.exec_spec.specs.declared.Monadic.{Monadic}
 use Rattle.exec_spec.specs.Execute.{one_operand}
 use Rattle.run_spec.specs.Run.{is_kcall}
-use Rattle.std.proofs.Common.{rules}
 use Rattle.exec.proofs.attempt.kcalls.Goals as goal
 
 pub returns-in-Kcall : goal.returns-in-Kcall

@@ -1,7 +1,6 @@
 use Rattle.exec.proofs.ExecuteLaws.{does_two, does_one, does_zero}
 use Rattle.access_spec.specs.Journal.{journaled}
 use Rattle.machine.specs.Status.{cpu}
-use Rattle.std.proofs.Common.{rules}
 use Rattle.exec.proofs.execute.execute.Goals as goal
 
 pub returns-in-Two : goal.returns-in-Two

@@ -1,6 +1,5 @@
 use Rattle.exec.proofs.ExecuteLaws.{two_stopped, two_done}
 use Rattle.access_spec.specs.Journal.{journaled}
-use Rattle.std.proofs.Common.{rules}
 use Rattle.exec.proofs.execute.execute_two.Goals as goal
 
 pub returns-then-x-ge-EXCEPTION : goal.returns-then-x-ge-EXCEPTION

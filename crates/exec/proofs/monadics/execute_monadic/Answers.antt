@@ -1,6 +1,5 @@
 use Rattle.exec.proofs.MonadicLaws.{is_kcall_law, is_call, is_return, is_jmp, is_jmp_false, is_jmp_true, is_catch, is_enter, is_ldraa, is_flush, is_popn}
 use Rattle.access_spec.specs.Journal.{journaled}
-use Rattle.std.proofs.Common.{rules}
 use Rattle.exec.proofs.monadics.execute_monadic.Goals as goal
 
 pub returns-in-Kcall : goal.returns-in-Kcall

@@ -1,6 +1,5 @@
 use Rattle.exec.proofs.NiladicLaws.{is_kret, is_cret, is_nop, is_testv, is_testc, is_clre}
 use Rattle.access_spec.specs.Journal.{journaled}
-use Rattle.std.proofs.Common.{rules}
 use Rattle.exec.proofs.niladics.execute_niladic.Goals as goal
 
 pub returns-in-Kret : goal.returns-in-Kret

@@ -1,6 +1,5 @@
 use Rattle.exec.proofs.NiladicLaws.{user_stopped, kernel_gone}
 use Rattle.access_spec.specs.Journal.{journaled}
-use Rattle.std.proofs.Common.{rules}
 use Rattle.exec.proofs.niladics.kret_privileged.Goals as goal
 
 pub returns-then-is_user : goal.returns-then-is_user

@@ -1,6 +1,5 @@
 use mathlib.Core.Path.{sym, ap}
 use Rattle.exec_spec.specs.Operands.{is_signed}
-use Rattle.std.proofs.Common.{rules}
 use Rattle.exec_alu.proofs.modes.is_signed.Goals as goal
 
 pub returns-in-AbsoluteByte : goal.returns-in-AbsoluteByte

@@ -1,6 +1,5 @@
 use mathlib.Core.Path.{sym, ap}
 use Rattle.exec_spec.specs.Operands.{width_of}
-use Rattle.std.proofs.Common.{rules}
 use Rattle.exec_alu.proofs.modes.width_of.Goals as goal
 
 pub returns-in-AbsoluteByte : goal.returns-in-AbsoluteByte

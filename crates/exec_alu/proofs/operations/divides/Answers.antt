@@ -1,6 +1,5 @@
 use mathlib.Core.Path.{sym, ap}
 use Rattle.exec_spec.specs.Alu.{divides}
-use Rattle.std.proofs.Common.{rules}
 use Rattle.exec_alu.proofs.operations.divides.Goals as goal
 
 pub returns-in-Add : goal.returns-in-Add

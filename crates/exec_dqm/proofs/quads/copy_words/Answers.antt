@@ -1,9 +1,7 @@
 use Rattle.exec_dqm.specs.Words.{words_for, put_words}
 use Rattle.exec_operands.proofs.RestLaws.{rest_stops, rest_goes}
 use Rattle.machine.specs.Status.{cpu}
-use mathlib.Core.Path.{◌∙◌}
 use Rattle.access_spec.specs.Journal.{journaled}
-use Rattle.std.proofs.Common.{rules}
 use Rattle.exec_dqm.proofs.quads.copy_words.Goals as goal
 
 pub returns-then-w-ge-EXCEPTION : goal.returns-then-w-ge-EXCEPTION

@@ -1,5 +1,4 @@
 use mathlib.Core.Path.{refl}
-use Rattle.std.proofs.Common.{rules}
 use Rattle.exec_dqm.proofs.quads.is_double.Goals as goal
 
 pub returns-in-General : goal.returns-in-General

@@ -1,5 +1,4 @@
 use mathlib.Core.Path.{refl}
-use Rattle.std.proofs.Common.{rules}
 use Rattle.exec_dqm.proofs.quads.is_double_mode.Goals as goal
 
 pub returns-in-AbsoluteByte : goal.returns-in-AbsoluteByte

@@ -4,9 +4,7 @@ use Rattle.exec_spec.specs.Dyadic.{move_words}
 use Rattle.exec_dqm.proofs.ManyLaws.{words_by}
 use Rattle.exec_operands.proofs.RestLaws.{part_stops, part_goes}
 use Rattle.exec_operands.specs.Code.{place_at}
-use mathlib.Core.Path.{◌∙◌}
 use Rattle.access_spec.specs.Journal.{journaled}
-use Rattle.std.proofs.Common.{rules}
 use Rattle.exec_dqm.proofs.quads.move_words.Goals as goal
 
 pub returns-then-a-ge-EXCEPTION : goal.returns-then-a-ge-EXCEPTION

@@ -2,9 +2,7 @@ use Rattle.exec_dqm.specs.Words.{words_for, count_for}
 use Rattle.exec_spec.specs.Dyadic.{write_many}
 use Rattle.exec_operands.proofs.RestLaws.{part_stops, part_goes}
 use Rattle.exec_operands.specs.Code.{place_at}
-use mathlib.Core.Path.{◌∙◌}
 use Rattle.access_spec.specs.Journal.{journaled}
-use Rattle.std.proofs.Common.{rules}
 use Rattle.exec_dqm.proofs.quads.put_words.Goals as goal
 
 pub returns-then-a-ge-EXCEPTION : goal.returns-then-a-ge-EXCEPTION

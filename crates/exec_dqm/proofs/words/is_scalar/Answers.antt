@@ -1,6 +1,5 @@
 use Rattle.exec_dqm.proofs.ManyLaws.{scalar_general}
 use mathlib.Core.Path.{refl}
-use Rattle.std.proofs.Common.{rules}
 use Rattle.exec_dqm.proofs.words.is_scalar.Goals as goal
 
 pub returns-in-General : goal.returns-in-General

@@ -6,7 +6,6 @@ use Rattle.exec_operands.proofs.RestLaws.{rest_faults, rest_goes}
 use Rattle.machine.specs.Status.{cpu}
 use mathlib.Core.Path.{ap, ◌∙◌}
 use Rattle.access_spec.specs.Journal.{journaled}
-use Rattle.std.proofs.Common.{rules}
 use Rattle.exec_dqm.proofs.words.load_four.Goals as goal
 
 pub returns-then-p-ge-EXCEPTION : goal.returns-then-p-ge-EXCEPTION

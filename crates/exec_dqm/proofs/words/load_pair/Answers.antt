@@ -1,7 +1,6 @@
 use Rattle.exec_dqm.proofs.WordLaws.{pair_fault, pair_loaded}
 use mathlib.Core.Path.{◌∙◌}
 use Rattle.access_spec.specs.Journal.{journaled}
-use Rattle.std.proofs.Common.{rules}
 use Rattle.exec_dqm.proofs.words.load_pair.Goals as goal
 
 pub returns-then-x-ge-EXCEPTION : goal.returns-then-x-ge-EXCEPTION

@@ -2,7 +2,6 @@ use Rattle.access_spec.specs.Journal.{journaled}
 use mathlib.Core.Path.{refl}
 use Rattle.exec_dqm.proofs.ManyLaws.{many_scalar, many_double, many_odd, many_quad}
 use Rattle.exec_dqm.specs.Words.{words_for}
-use Rattle.std.proofs.Common.{rules}
 use Rattle.std.proofs.lemmas.Bool.{not_from_false, not_from_true}
 use Rattle.exec_dqm.proofs.words.read_many.Goals as goal
 

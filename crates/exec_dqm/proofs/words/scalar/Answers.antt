@@ -1,6 +1,5 @@
 use Rattle.exec_dqm.proofs.ManyLaws.{scalar_register}
 use mathlib.Core.Path.{refl}
-use Rattle.std.proofs.Common.{rules}
 use Rattle.exec_dqm.proofs.words.scalar.Goals as goal
 
 pub returns-in-General : goal.returns-in-General

@@ -3,7 +3,6 @@ use Prim.Native.Nat.{ℕ}
 use Rattle.exec_dqm.proofs.ManyLaws.{four_stopped, four_stored}
 use mathlib.Core.Path.{ap, ◌∙◌}
 use Rattle.access_spec.specs.Journal.{journaled}
-use Rattle.std.proofs.Common.{rules}
 use Rattle.exec_dqm.proofs.words.store_four.Goals as goal
 
 pub returns-then-e-ge-EXCEPTION : goal.returns-then-e-ge-EXCEPTION

@@ -1,7 +1,5 @@
 use Rattle.exec_dqm.proofs.ManyLaws.{store_stopped, pair_stored}
-use mathlib.Core.Path.{◌∙◌}
 use Rattle.access_spec.specs.Journal.{journaled}
-use Rattle.std.proofs.Common.{rules}
 use Rattle.exec_dqm.proofs.words.store_pair.Goals as goal
 
 pub returns-then-e-ge-EXCEPTION : goal.returns-then-e-ge-EXCEPTION

@@ -1,6 +1,5 @@
 use Rattle.access_spec.specs.Journal.{journaled}
 use Rattle.exec_dqm.proofs.ManyLaws.{put_nowhere, put_double, put_odd, put_quad}
-use Rattle.std.proofs.Common.{rules}
 use Rattle.std.proofs.lemmas.Bool.{not_from_false, not_from_true}
 use Rattle.exec_dqm.proofs.words.write_many.Goals as goal
 

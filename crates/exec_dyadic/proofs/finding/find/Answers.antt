@@ -2,7 +2,6 @@ use Rattle.exec_dyadic.proofs.FindLaws.{source_fault, both_found}
 use Rattle.exec_operands.specs.Code.{place_at}
 use mathlib.Core.Path.{◌∙◌}
 use Rattle.access_spec.specs.Journal.{journaled}
-use Rattle.std.proofs.Common.{rules}
 use Rattle.exec_dyadic.proofs.finding.find.Goals as goal
 
 pub returns-then-x-ge-EXCEPTION : goal.returns-then-x-ge-EXCEPTION

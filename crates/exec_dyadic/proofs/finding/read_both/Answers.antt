@@ -5,7 +5,6 @@ use Rattle.exec_operands.specs.Code.{place_at}
 use Rattle.machine.specs.Status.{cpu}
 use mathlib.Core.Path.{◌∙◌}
 use Rattle.access_spec.specs.Journal.{journaled}
-use Rattle.std.proofs.Common.{rules}
 use Rattle.exec_dyadic.proofs.finding.read_both.Goals as goal
 
 pub returns-then-f-ge-EXCEPTION : goal.returns-then-f-ge-EXCEPTION

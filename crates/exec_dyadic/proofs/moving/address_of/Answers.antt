@@ -1,5 +1,4 @@
 use Rattle.exec_dyadic.proofs.MoveLaws.{general_address, register_address}
-use Rattle.std.proofs.Common.{rules}
 use Rattle.exec_dyadic.proofs.moving.address_of.Goals as goal
 
 pub returns-in-General : goal.returns-in-General

@@ -1,5 +1,4 @@
 use Rattle.exec_dyadic.proofs.MoveLaws.{constant_address, memory_address}
-use Rattle.std.proofs.Common.{rules}
 use Rattle.exec_dyadic.proofs.moving.general_address.Goals as goal
 
 pub returns-then-is_constant : goal.returns-then-is_constant

@@ -3,9 +3,7 @@ use Rattle.exec_dyadic.proofs.MoveLaws.{address_moved}
 use Rattle.exec_spec.specs.Dyadic.{move_to}
 use Rattle.exec_spec.specs.Dyadic.{move_address, place_address}
 use Rattle.exec_operands.specs.Code.{place_at}
-use mathlib.Core.Path.{◌∙◌}
 use Rattle.access_spec.specs.Journal.{journaled}
-use Rattle.std.proofs.Common.{rules}
 use Rattle.exec_dyadic.proofs.moving.move_address.Goals as goal
 
 pub returns-then-a-ge-EXCEPTION : goal.returns-then-a-ge-EXCEPTION

@@ -3,9 +3,7 @@ use Rattle.exec_spec.specs.Dyadic.{move}
 use Rattle.exec_operands.proofs.RestLaws.{rest_stops, rest_goes}
 use Rattle.exec_operands.specs.Code.{place_at}
 use Rattle.machine.specs.Status.{cpu}
-use mathlib.Core.Path.{◌∙◌}
 use Rattle.access_spec.specs.Journal.{journaled}
-use Rattle.std.proofs.Common.{rules}
 use Rattle.exec_dyadic.proofs.moving.move_operand.Goals as goal
 
 pub returns-then-f-ge-EXCEPTION : goal.returns-then-f-ge-EXCEPTION

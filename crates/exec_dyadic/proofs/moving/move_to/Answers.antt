@@ -1,9 +1,7 @@
 use Rattle.exec_spec.specs.Operands.{write_place}
 use Rattle.exec_operands.proofs.RestLaws.{part_stops, part_goes}
 use Rattle.exec_operands.specs.Code.{place_at}
-use mathlib.Core.Path.{◌∙◌}
 use Rattle.access_spec.specs.Journal.{journaled}
-use Rattle.std.proofs.Common.{rules}
 use Rattle.exec_dyadic.proofs.moving.move_to.Goals as goal
 
 pub returns-then-a-ge-EXCEPTION : goal.returns-then-a-ge-EXCEPTION

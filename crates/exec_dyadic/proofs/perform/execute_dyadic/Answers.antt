@@ -1,6 +1,5 @@
 use Rattle.exec_dyadic.proofs.PerformLaws.{check_stops, check_goes}
 use Rattle.access_spec.specs.Journal.{journaled}
-use Rattle.std.proofs.Common.{rules}
 use Rattle.exec_dyadic.proofs.perform.execute_dyadic.Goals as goal
 
 pub returns-then-e-ge-EXCEPTION : goal.returns-then-e-ge-EXCEPTION

@@ -2,7 +2,6 @@ use Rattle.exec_spec.specs.Dyadic.{perform}
 use Rattle.exec_dyadic.proofs.PerformLaws.{performed}
 use Rattle.machine.specs.Status.{cpu}
 use Rattle.access_spec.specs.Journal.{journaled}
-use Rattle.std.proofs.Common.{rules}
 use Rattle.exec_dyadic.proofs.perform.perform.Goals as goal
 
 pub returns-in-Compute : goal.returns-in-Compute

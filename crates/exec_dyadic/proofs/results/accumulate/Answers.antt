@@ -2,9 +2,7 @@ use Rattle.exec_spec.specs.Dyadic.{accumulate_with}
 use Rattle.exec_spec.specs.Dyadic.{accumulate}
 use Rattle.exec_operands.proofs.RestLaws.{rest_stops, rest_goes}
 use Rattle.machine.specs.Status.{cpu}
-use mathlib.Core.Path.{◌∙◌}
 use Rattle.access_spec.specs.Journal.{journaled}
-use Rattle.std.proofs.Common.{rules}
 use Rattle.exec_dyadic.proofs.results.accumulate.Goals as goal
 
 pub returns-then-b-ge-EXCEPTION : goal.returns-then-b-ge-EXCEPTION

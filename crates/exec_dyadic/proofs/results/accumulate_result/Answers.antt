@@ -5,7 +5,6 @@ use Rattle.datapath.specs.Parts.{done}
 use Rattle.exec_dyadic.proofs.ResultLaws.{word_fault, word_done}
 use Rattle.machine.specs.Status.{cpu}
 use Rattle.access_spec.specs.Journal.{journaled}
-use Rattle.std.proofs.Common.{rules}
 use Rattle.exec_dyadic.proofs.results.accumulate_result.Goals as goal
 
 pub returns-then-x-ge-EXCEPTION : goal.returns-then-x-ge-EXCEPTION

@@ -2,7 +2,6 @@ use Rattle.exec_spec.specs.Dyadic.{accumulate_result}
 use Rattle.exec_spec.specs.Alu.{operate}
 use Rattle.exec_dyadic.proofs.ResultLaws.{divisor_zero, divisor_other}
 use Rattle.access_spec.specs.Journal.{journaled}
-use Rattle.std.proofs.Common.{rules}
 use Rattle.exec_dyadic.proofs.results.accumulate_with.Goals as goal
 
 pub returns-then-divides-x : goal.returns-then-divides-x

@@ -5,7 +5,6 @@ use Rattle.datapath.specs.Parts.{done}
 use Rattle.exec_spec.specs.Dyadic.{compare}
 use Rattle.machine.specs.Status.{cpu}
 use Rattle.access_spec.specs.Journal.{journaled}
-use Rattle.std.proofs.Common.{rules}
 use Rattle.exec_dyadic.proofs.results.compare.Goals as goal
 
 pub returns-then-b-ge-EXCEPTION : goal.returns-then-b-ge-EXCEPTION

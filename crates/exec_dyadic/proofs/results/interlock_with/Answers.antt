@@ -1,11 +1,10 @@
 use Rattle.exec_spec.specs.Operands.{write_place, write_accumulator}
-use Rattle.exec_spec.specs.Alu.{operate, Result}
+use Rattle.exec_spec.specs.Alu.{Result}
 use Rattle.exec_dyadic.proofs.ResultLaws.{word_fault, word_then}
 use Rattle.exec_operands.specs.Code.{place_at}
 use Rattle.machine.specs.Status.{cpu}
 use mathlib.Core.Path.{ap, ◌∙◌}
 use Rattle.access_spec.specs.Journal.{journaled}
-use Rattle.std.proofs.Common.{rules}
 use Rattle.exec_dyadic.proofs.results.interlock_with.Goals as goal
 
 pub returns-then-e-ge-EXCEPTION : goal.returns-then-e-ge-EXCEPTION

@@ -6,7 +6,6 @@ use Rattle.exec_dyadic.proofs.ResultLaws.{word_fault, word_done}
 use Rattle.exec_operands.specs.Code.{place_at}
 use Rattle.machine.specs.Status.{cpu}
 use Rattle.access_spec.specs.Journal.{journaled}
-use Rattle.std.proofs.Common.{rules}
 use Rattle.exec_dyadic.proofs.results.put_result.Goals as goal
 
 pub returns-then-x-ge-EXCEPTION : goal.returns-then-x-ge-EXCEPTION

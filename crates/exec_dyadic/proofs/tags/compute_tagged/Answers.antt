@@ -3,9 +3,7 @@ use Rattle.exec_spec.specs.Dyadic.{compute_tagged}
 use Rattle.exec_operands.proofs.RestLaws.{rest_stops, rest_goes}
 use Rattle.exec_operands.specs.Code.{place_at}
 use Rattle.machine.specs.Status.{cpu}
-use mathlib.Core.Path.{◌∙◌}
 use Rattle.access_spec.specs.Journal.{journaled}
-use Rattle.std.proofs.Common.{rules}
 use Rattle.exec_dyadic.proofs.tags.compute_tagged.Goals as goal
 
 pub returns-then-b-ge-EXCEPTION : goal.returns-then-b-ge-EXCEPTION

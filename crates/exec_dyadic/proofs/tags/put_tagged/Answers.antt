@@ -6,7 +6,6 @@ use Rattle.exec_operands.specs.Code.{place_at}
 use Rattle.machine.specs.Status.{cpu}
 use mathlib.Core.Path.{refl}
 use Rattle.access_spec.specs.Journal.{journaled}
-use Rattle.std.proofs.Common.{rules}
 use Rattle.exec_dyadic.proofs.tags.put_tagged.Goals as goal
 
 pub returns-then-x-ge-EXCEPTION : goal.returns-then-x-ge-EXCEPTION

@@ -1,7 +1,6 @@
 use Rattle.exec_dyadic.proofs.TagLaws.{tagged_stored, tagged_flagged}
 use Rattle.exec_operands.specs.Code.{place_at}
 use Rattle.access_spec.specs.Journal.{journaled}
-use Rattle.std.proofs.Common.{rules}
 use Rattle.exec_dyadic.proofs.tags.store_tagged.Goals as goal
 
 pub returns-then-t : goal.returns-then-t

@@ -1,7 +1,6 @@
 use Rattle.exec_dyadic.proofs.TagLaws.{tagged_by}
 use Rattle.exec_operands.specs.Code.{place_at}
 use Rattle.access_spec.specs.Journal.{journaled}
-use Rattle.std.proofs.Common.{rules}
 use Rattle.exec_dyadic.proofs.tags.tagged_with.Goals as goal
 
 pub returns : goal.returns

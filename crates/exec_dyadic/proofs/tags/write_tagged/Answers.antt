@@ -1,6 +1,5 @@
 use Rattle.exec_dyadic.proofs.TagLaws.{tagged_general, tagged_register}
 use Rattle.access_spec.specs.Journal.{journaled}
-use Rattle.std.proofs.Common.{rules}
 use Rattle.exec_dyadic.proofs.tags.write_tagged.Goals as goal
 
 pub returns-in-General : goal.returns-in-General

@@ -1,7 +1,5 @@
 use Rattle.exec_event_frames.proofs.PushLaws.{pair_first, pair_second, pair_pushed}
 use Rattle.access_spec.specs.Journal.{journaled}
-use mathlib.Core.Path.{◌∙◌}
-use Rattle.std.proofs.Common.{rules}
 use Rattle.exec_event_frames.proofs.pushes.push_pair.Goals as goal
 
 pub returns-then-x-ge-EXCEPTION : goal.returns-then-x-ge-EXCEPTION

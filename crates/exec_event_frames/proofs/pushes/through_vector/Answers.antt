@@ -1,6 +1,5 @@
 use Rattle.exec_event_frames.proofs.PushLaws.{vector_stopped, vector_taken}
 use Rattle.access_spec.specs.Journal.{journaled}
-use Rattle.std.proofs.Common.{rules}
 use Rattle.exec_event_frames.proofs.pushes.through_vector.Goals as goal
 
 pub returns-then-x-ge-EXCEPTION : goal.returns-then-x-ge-EXCEPTION

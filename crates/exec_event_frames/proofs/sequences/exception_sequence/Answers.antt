@@ -1,7 +1,5 @@
 use Rattle.exec_event_frames.proofs.SequenceLaws.{exception_stopped, exception_taken}
 use Rattle.access_spec.specs.Journal.{journaled}
-use mathlib.Core.Path.{◌∙◌}
-use Rattle.std.proofs.Common.{rules}
 use Rattle.exec_event_frames.proofs.sequences.exception_sequence.Goals as goal
 
 pub returns-then-x-ge-EXCEPTION : goal.returns-then-x-ge-EXCEPTION

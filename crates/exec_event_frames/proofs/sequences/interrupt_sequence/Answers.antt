@@ -1,7 +1,5 @@
 use Rattle.exec_event_frames.proofs.SequenceLaws.{interrupt_stopped, interrupt_taken}
 use Rattle.access_spec.specs.Journal.{journaled}
-use mathlib.Core.Path.{◌∙◌}
-use Rattle.std.proofs.Common.{rules}
 use Rattle.exec_event_frames.proofs.sequences.interrupt_sequence.Goals as goal
 
 pub returns-then-x-ge-EXCEPTION : goal.returns-then-x-ge-EXCEPTION

@@ -1,6 +1,5 @@
 use Rattle.exec_event_frames.proofs.SequenceLaws.{saved_data, saved_frame}
 use Rattle.access_spec.specs.Journal.{journaled}
-use Rattle.std.proofs.Common.{rules}
 use Rattle.exec_event_frames.proofs.sequences.save_pc.Goals as goal
 
 pub returns-then-sp_current : goal.returns-then-sp_current

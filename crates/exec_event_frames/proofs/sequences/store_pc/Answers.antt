@@ -1,6 +1,5 @@
 use Rattle.exec_event_frames.proofs.SequenceLaws.{pc_stopped, pc_stored}
 use Rattle.access_spec.specs.Journal.{journaled}
-use Rattle.std.proofs.Common.{rules}
 use Rattle.exec_event_frames.proofs.sequences.store_pc.Goals as goal
 
 pub returns-then-x-ge-EXCEPTION : goal.returns-then-x-ge-EXCEPTION

@@ -1,6 +1,5 @@
 use Rattle.exec_flow.proofs.FlowLaws.{called_stopped, called_gone}
 use Rattle.access_spec.specs.Journal.{journaled}
-use Rattle.std.proofs.Common.{rules}
 use Rattle.exec_flow.proofs.flow.call_to.Goals as goal
 
 pub returns-then-x-ge-EXCEPTION : goal.returns-then-x-ge-EXCEPTION

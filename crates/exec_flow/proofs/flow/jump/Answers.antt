@@ -1,6 +1,5 @@
 use Rattle.exec_flow.proofs.FlowLaws.{jump_stopped, jump_gone}
 use Rattle.access_spec.specs.Journal.{journaled}
-use Rattle.std.proofs.Common.{rules}
 use Rattle.exec_flow.proofs.flow.jump.Goals as goal
 
 pub returns-then-x-ge-EXCEPTION : goal.returns-then-x-ge-EXCEPTION

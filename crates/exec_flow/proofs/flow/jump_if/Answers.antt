@@ -1,6 +1,5 @@
 use Rattle.exec_flow.proofs.FlowLaws.{jump_taken, jump_passed}
 use Rattle.access_spec.specs.Journal.{journaled}
-use Rattle.std.proofs.Common.{rules}
 use Rattle.exec_flow.proofs.flow.jump_if.Goals as goal
 
 pub returns-then-taken : goal.returns-then-taken

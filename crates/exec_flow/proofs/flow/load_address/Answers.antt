@@ -1,7 +1,5 @@
 use Rattle.exec_flow.proofs.FlowLaws.{load_stopped, load_gone}
 use Rattle.access_spec.specs.Journal.{journaled}
-use mathlib.Core.Path.{◌∙◌}
-use Rattle.std.proofs.Common.{rules}
 use Rattle.exec_flow.proofs.flow.load_address.Goals as goal
 
 pub returns-then-x-ge-EXCEPTION : goal.returns-then-x-ge-EXCEPTION

@@ -1,6 +1,5 @@
 use Rattle.exec_flow.proofs.FlowLaws.{return_stopped, return_gone}
 use Rattle.access_spec.specs.Journal.{journaled}
-use Rattle.std.proofs.Common.{rules}
 use Rattle.exec_flow.proofs.flow.return_from.Goals as goal
 
 pub returns-then-x-ge-EXCEPTION : goal.returns-then-x-ge-EXCEPTION

@@ -1,7 +1,5 @@
 use Rattle.exec_flow.proofs.WordLaws.{pointer_faulted, pointer_followed}
 use Rattle.access_spec.specs.Journal.{journaled}
-use mathlib.Core.Path.{◌∙◌}
-use Rattle.std.proofs.Common.{rules}
 use Rattle.exec_flow.proofs.words.read_through.Goals as goal
 
 pub returns-then-x-ge-EXCEPTION : goal.returns-then-x-ge-EXCEPTION

@@ -1,6 +1,5 @@
 use Rattle.exec_flow.proofs.WordLaws.{by_absolute, by_stack, by_indirect, by_immediate, by_absolute_indirect, by_stack_indirect, by_relative, by_flow_absolute}
 use Rattle.access_spec.specs.Journal.{journaled}
-use Rattle.std.proofs.Common.{rules}
 use Rattle.exec_flow.proofs.words.read_word32.Goals as goal
 
 pub returns-in-WordAbsolute : goal.returns-in-WordAbsolute

@@ -1,5 +1,4 @@
 use Rattle.exec_flow.proofs.WordLaws.{pointer_sp, pointer_isp}
-use Rattle.std.proofs.Common.{rules}
 use Rattle.exec_flow.proofs.words.stack_pointer.Goals as goal
 
 pub returns-then-sp_current : goal.returns-then-sp_current

@@ -1,6 +1,5 @@
 use Rattle.exec_operands.proofs.WriteLaws.{accumulator_written}
 use Rattle.access_spec.specs.Journal.{journaled}
-use Rattle.std.proofs.Common.{rules}
 use Rattle.exec_operands.proofs.accumulator.write_accumulator.Goals as goal
 
 pub returns : goal.returns

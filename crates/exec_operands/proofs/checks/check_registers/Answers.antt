@@ -1,5 +1,4 @@
 use Rattle.exec_operands.proofs.CheckLaws.{privilege_wanted, register_wanted, registers_there}
-use Rattle.std.proofs.Common.{rules}
 use Rattle.exec_operands.proofs.checks.check_registers.Goals as goal
 
 pub returns-then-is_user-is_register : goal.returns-then-is_user-is_register

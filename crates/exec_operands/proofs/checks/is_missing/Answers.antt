@@ -1,6 +1,5 @@
 use Rattle.exec_operands.proofs.CheckLaws.{missing_register}
 use mathlib.Core.Path.{refl}
-use Rattle.std.proofs.Common.{rules}
 use Rattle.exec_operands.proofs.checks.is_missing.Goals as goal
 
 pub returns-in-General : goal.returns-in-General

@@ -1,6 +1,5 @@
 use Rattle.exec_operands.proofs.PlaceLaws.{kind_known}
 use mathlib.Core.Path.{refl}
-use Rattle.std.proofs.Common.{rules}
 use Rattle.exec_operands.proofs.places.is_constant.Goals as goal
 
 pub returns-in-Absolute : goal.returns-in-Absolute

@@ -1,7 +1,6 @@
 use Rattle.exec_operands.proofs.PlaceLaws.{located_general, located_register}
 use mathlib.Core.Path.{refl}
 use Rattle.access_spec.specs.Journal.{journaled}
-use Rattle.std.proofs.Common.{rules}
 use Rattle.exec_operands.proofs.places.locate_at.Goals as goal
 
 pub returns-in-General : goal.returns-in-General

@@ -1,7 +1,6 @@
 use Rattle.exec_operands.proofs.PlaceLaws.{located_absolute, located_offset, located_indirect, located_constant}
 use mathlib.Core.Path.{refl}
 use Rattle.access_spec.specs.Journal.{journaled}
-use Rattle.std.proofs.Common.{rules}
 use Rattle.exec_operands.proofs.places.locate_general.Goals as goal
 
 pub returns-in-Absolute : goal.returns-in-Absolute

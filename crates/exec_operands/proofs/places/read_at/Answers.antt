@@ -1,7 +1,6 @@
 use Rattle.exec_operands.proofs.ReadLaws.{general_read, register_read}
 use mathlib.Core.Path.{refl}
 use Rattle.access_spec.specs.Journal.{journaled}
-use Rattle.std.proofs.Common.{rules}
 use Rattle.exec_operands.proofs.places.read_at.Goals as goal
 
 pub returns-in-General : goal.returns-in-General

@@ -1,6 +1,5 @@
 use Rattle.exec_operands.proofs.ReadLaws.{expanded_fault, expanded_read}
 use Rattle.access_spec.specs.Journal.{journaled}
-use Rattle.std.proofs.Common.{rules}
 use Rattle.exec_operands.proofs.places.read_expanded.Goals as goal
 
 pub returns-then-x-ge-EXCEPTION : goal.returns-then-x-ge-EXCEPTION

@@ -1,7 +1,6 @@
 use Rattle.exec_operands.proofs.ReadLaws.{constant_read, memory_read}
 use mathlib.Core.Path.{refl}
 use Rattle.access_spec.specs.Journal.{journaled}
-use Rattle.std.proofs.Common.{rules}
 use Rattle.exec_operands.proofs.places.read_general.Goals as goal
 
 pub returns-then-is_constant : goal.returns-then-is_constant

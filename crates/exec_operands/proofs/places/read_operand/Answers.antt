@@ -1,7 +1,6 @@
 use Rattle.exec_operands.proofs.ReadLaws.{operand_fault, operand_read}
 use mathlib.Core.Path.{◌∙◌}
 use Rattle.access_spec.specs.Journal.{journaled}
-use Rattle.std.proofs.Common.{rules}
 use Rattle.exec_operands.proofs.places.read_operand.Goals as goal
 
 pub returns-then-a-ge-EXCEPTION : goal.returns-then-a-ge-EXCEPTION

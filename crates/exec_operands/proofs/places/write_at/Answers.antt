@@ -1,6 +1,5 @@
 use Rattle.exec_operands.proofs.WriteLaws.{general_written, register_written_law}
 use Rattle.access_spec.specs.Journal.{journaled}
-use Rattle.std.proofs.Common.{rules}
 use Rattle.exec_operands.proofs.places.write_at.Goals as goal
 
 pub returns-in-General : goal.returns-in-General

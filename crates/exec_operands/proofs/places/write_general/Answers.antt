@@ -1,6 +1,5 @@
 use Rattle.exec_operands.proofs.WriteLaws.{constant_written, memory_written}
 use Rattle.access_spec.specs.Journal.{journaled}
-use Rattle.std.proofs.Common.{rules}
 use Rattle.exec_operands.proofs.places.write_general.Goals as goal
 
 pub returns-then-is_constant : goal.returns-then-is_constant

@@ -1,5 +1,4 @@
 use Rattle.exec_operands.proofs.ReadLaws.{word_past}
-use Rattle.std.proofs.Common.{rules}
 use Rattle.exec_operands.proofs.registers.word_at.Goals as goal
 
 pub returns-else-k-lt-BANK_WORDS : goal.returns-else-k-lt-BANK_WORDS

@@ -1,6 +1,5 @@
 use mathlib.Core.Path.{sym, ap}
 use Rattle.exec_spec.specs.Execute.{monadic_operation}
-use Rattle.std.proofs.Common.{rules}
 use Rattle.exec_rows.proofs.forms.monadic_operation.Goals as goal
 
 pub returns-in-Kcall : goal.returns-in-Kcall

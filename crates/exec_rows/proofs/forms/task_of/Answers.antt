@@ -1,6 +1,5 @@
 use mathlib.Core.Path.{sym, ap}
 use Rattle.exec_spec.specs.Execute.{task_of}
-use Rattle.std.proofs.Common.{rules}
 use Rattle.exec_rows.proofs.forms.task_of.Goals as goal
 
 pub returns-in-Ori : goal.returns-in-Ori

@@ -1,6 +1,5 @@
 use Rattle.exec_stack.proofs.CatchLaws.{catch_stopped, catch_done}
 use Rattle.access_spec.specs.Journal.{journaled}
-use Rattle.std.proofs.Common.{rules}
 use Rattle.exec_stack.proofs.catches.catch.Goals as goal
 
 pub returns-then-x-ge-EXCEPTION : goal.returns-then-x-ge-EXCEPTION

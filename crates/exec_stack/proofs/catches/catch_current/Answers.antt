@@ -1,7 +1,5 @@
 use Rattle.exec_stack.proofs.CatchLaws.{target_stopped, current_caught, current_left}
 use Rattle.access_spec.specs.Journal.{journaled}
-use mathlib.Core.Path.{◌∙◌}
-use Rattle.std.proofs.Common.{rules}
 use Rattle.exec_stack.proofs.catches.catch_current.Goals as goal
 
 pub returns-then-x-ge-EXCEPTION : goal.returns-then-x-ge-EXCEPTION

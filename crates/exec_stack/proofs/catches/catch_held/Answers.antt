@@ -1,6 +1,5 @@
 use Rattle.exec_stack.proofs.CatchLaws.{held_current, held_nothing}
 use Rattle.access_spec.specs.Journal.{journaled}
-use Rattle.std.proofs.Common.{rules}
 use Rattle.exec_stack.proofs.catches.catch_held.Goals as goal
 
 pub returns-then-sp_current : goal.returns-then-sp_current

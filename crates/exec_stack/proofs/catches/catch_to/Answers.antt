@@ -1,7 +1,6 @@
 use Rattle.exec_stack.proofs.CatchLaws.{fill_stopped, check_stopped, caught}
 use Rattle.access.specs.Followed.{regime_for}
 use Rattle.access_spec.specs.Journal.{journaled}
-use Rattle.std.proofs.Common.{rules}
 use Rattle.exec_stack.proofs.catches.catch_to.Goals as goal
 
 pub returns-then-x-ge-EXCEPTION : goal.returns-then-x-ge-EXCEPTION

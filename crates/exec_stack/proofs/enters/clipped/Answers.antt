@@ -1,5 +1,4 @@
 use Rattle.exec_stack.proofs.EnterLaws.{clipped_top, clipped_same, clipped_low}
-use Rattle.std.proofs.Common.{rules}
 use Rattle.exec_stack.proofs.enters.clipped.Goals as goal
 
 pub returns-then-top-msp : goal.returns-then-top-msp

@@ -1,7 +1,5 @@
 use Rattle.exec_stack.proofs.EnterLaws.{enter_first, enter_second, enter_done}
 use Rattle.access_spec.specs.Journal.{journaled}
-use mathlib.Core.Path.{◌∙◌}
-use Rattle.std.proofs.Common.{rules}
 use Rattle.exec_stack.proofs.enters.enter.Goals as goal
 
 pub returns-then-x-ge-EXCEPTION : goal.returns-then-x-ge-EXCEPTION

@@ -1,6 +1,5 @@
 use Rattle.exec_stack.proofs.EnterLaws.{at_offset, at_empty, at_uncached, at_plain}
 use Rattle.access_spec.specs.Journal.{journaled}
-use Rattle.std.proofs.Common.{rules}
 use Rattle.exec_stack.proofs.enters.enter_at.Goals as goal
 
 pub returns-then-is_stack : goal.returns-then-is_stack

@@ -1,6 +1,5 @@
 use Rattle.exec_stack.proofs.EnterLaws.{plain_stopped, plain_done}
 use Rattle.access_spec.specs.Journal.{journaled}
-use Rattle.std.proofs.Common.{rules}
 use Rattle.exec_stack.proofs.enters.enter_plain.Goals as goal
 
 pub returns-then-x-ge-EXCEPTION : goal.returns-then-x-ge-EXCEPTION

@@ -1,7 +1,5 @@
 use Rattle.exec_stack.proofs.ReturnLaws.{cret_first, cret_second, cret_done}
 use Rattle.access_spec.specs.Journal.{journaled}
-use mathlib.Core.Path.{◌∙◌}
-use Rattle.std.proofs.Common.{rules}
 use Rattle.exec_stack.proofs.returns.cret.Goals as goal
 
 pub returns-then-x-ge-EXCEPTION : goal.returns-then-x-ge-EXCEPTION

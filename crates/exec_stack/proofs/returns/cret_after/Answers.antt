@@ -1,7 +1,5 @@
 use Rattle.exec_stack.proofs.ReturnLaws.{after_first, after_second, after_done}
 use Rattle.access_spec.specs.Journal.{journaled}
-use mathlib.Core.Path.{◌∙◌}
-use Rattle.std.proofs.Common.{rules}
 use Rattle.exec_stack.proofs.returns.cret_after.Goals as goal
 
 pub returns-then-x-ge-EXCEPTION : goal.returns-then-x-ge-EXCEPTION

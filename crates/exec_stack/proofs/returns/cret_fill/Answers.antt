@@ -1,6 +1,5 @@
 use Rattle.exec_stack.proofs.ReturnLaws.{fill_on, fill_off, fill_left}
 use Rattle.access_spec.specs.Journal.{journaled}
-use Rattle.std.proofs.Common.{rules}
 use Rattle.exec_stack.proofs.returns.cret_fill.Goals as goal
 
 pub returns-then-bit-2 : goal.returns-then-bit-2

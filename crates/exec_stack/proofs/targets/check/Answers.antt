@@ -1,6 +1,5 @@
 use Rattle.exec_stack.proofs.TargetLaws.{check_faulted, checked}
 use Rattle.access.specs.Followed.{regime_for}
-use Rattle.std.proofs.Common.{rules}
 use Rattle.exec_stack.proofs.targets.check.Goals as goal
 
 pub returns-then-x-ge-EXCEPTION : goal.returns-then-x-ge-EXCEPTION

@@ -1,7 +1,6 @@
 use Rattle.exec_stack.proofs.TargetLaws.{msp_unchecked, msp_checked}
 use Rattle.access.specs.Followed.{regime_for}
 use Rattle.access_spec.specs.Journal.{journaled}
-use Rattle.std.proofs.Common.{rules}
 use Rattle.exec_stack.proofs.targets.check_msp.Goals as goal
 
 pub returns-then-new-old : goal.returns-then-new-old

@@ -1,6 +1,5 @@
 use Rattle.exec_stack.proofs.TargetLaws.{target_checked}
 use Rattle.access_spec.specs.Journal.{journaled}
-use Rattle.std.proofs.Common.{rules}
 use Rattle.exec_stack.proofs.targets.check_target.Goals as goal
 
 pub returns : goal.returns

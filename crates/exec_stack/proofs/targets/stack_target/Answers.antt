@@ -1,6 +1,5 @@
 use Rattle.exec_stack.proofs.TargetLaws.{target_absolute, target_stack, target_indirect, target_immediate, target_flow1, target_flow2, target_flow3, target_flow4}
 use Rattle.access_spec.specs.Journal.{journaled}
-use Rattle.std.proofs.Common.{rules}
 use Rattle.exec_stack.proofs.targets.stack_target.Goals as goal
 
 pub returns-in-WordAbsolute : goal.returns-in-WordAbsolute

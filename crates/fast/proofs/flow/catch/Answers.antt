@@ -2,8 +2,7 @@ use mathlib.Core.Path.{refl, sym}
 use borrow.Author.Tests.{not-false}
 use Rattle.word.proofs.CaseLaws.{not_both}
 use Rattle.fast.proofs.FlowLaws.{catch_goes}
-use Rattle.std.proofs.Common.{rules}
-use Rattle.std.proofs.lemmas.Bool.{not_from_false, not_from_true}
+use Rattle.std.proofs.lemmas.Bool.{not_from_true}
 use Rattle.fast.proofs.flow.catch.Goals as goal
 
 pub returns-then-not-is_stack : goal.returns-then-not-is_stack

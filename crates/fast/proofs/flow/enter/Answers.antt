@@ -3,8 +3,7 @@ use mathlib.Core.Path.{refl, sym, ap, ◌∙◌}
 use borrow.Author.Tests.{not-false}
 use Rattle.word.proofs.CaseLaws.{not_both}
 use Rattle.fast.proofs.FlowLaws.{enter_gives}
-use Rattle.std.proofs.Common.{rules}
-use Rattle.std.proofs.lemmas.Bool.{not_from_false, not_from_true}
+use Rattle.std.proofs.lemmas.Bool.{not_from_true}
 use Rattle.fast.proofs.flow.enter.Goals as goal
 
 pub returns-then-not-is_stack : goal.returns-then-not-is_stack

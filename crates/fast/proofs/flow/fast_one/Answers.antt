@@ -1,7 +1,6 @@
 use Rattle.fast.proofs.FlowLaws.{calls, returns_effect_free, jumps, jumps_true, jumps_false, pops, catches, enters}
 use Rattle.word.proofs.CaseLaws.{not_both}
 use mathlib.Core.Path.{refl}
-use Rattle.std.proofs.Common.{rules}
 use Rattle.fast.proofs.flow.fast_one.Goals as goal
 
 pub returns-in-Kcall : goal.returns-in-Kcall

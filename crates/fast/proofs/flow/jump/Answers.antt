@@ -1,7 +1,6 @@
 use Rattle.fast.proofs.FlowLaws.{jump_goes}
 use Rattle.word.proofs.CaseLaws.{not_both}
 use mathlib.Core.Path.{refl, sym}
-use Rattle.std.proofs.Common.{rules}
 use Rattle.fast.proofs.flow.jump.Goals as goal
 
 pub returns-then-is_relative : goal.returns-then-is_relative

@@ -1,7 +1,6 @@
 use Rattle.fast.proofs.FlowLaws.{taken_goes, passed_goes}
 use Rattle.word.proofs.CaseLaws.{not_both}
 use mathlib.Core.Path.{sym}
-use Rattle.std.proofs.Common.{rules}
 use Rattle.fast.proofs.flow.jump_if.Goals as goal
 
 pub returns-then-taken : goal.returns-then-taken

@@ -1,7 +1,6 @@
 use Rattle.fast.proofs.FlowLaws.{pop_done}
 use Rattle.word.proofs.CaseLaws.{not_both}
 use mathlib.Core.Path.{refl, sym}
-use Rattle.std.proofs.Common.{rules}
 use Rattle.fast.proofs.flow.pop.Goals as goal
 
 pub returns-then-stack_held : goal.returns-then-stack_held

@@ -2,7 +2,6 @@ use Rattle.fast.proofs.InstructionLaws.{performed}
 use Rattle.word.proofs.CaseLaws.{not_both}
 use native.Mathlib.Omega.{arith}
 use mathlib.Core.Path.{refl}
-use Rattle.std.proofs.Common.{rules}
 use Rattle.fast.proofs.instructions.fast_attempt.Goals as goal
 
 pub returns-then-x-ge-NOWHERE : goal.returns-then-x-ge-NOWHERE

@@ -1,7 +1,6 @@
 use Rattle.fast.proofs.InstructionLaws.{two_executed, one_executed}
 use Rattle.word.proofs.CaseLaws.{not_both}
 use mathlib.Core.Path.{refl}
-use Rattle.std.proofs.Common.{rules}
 use Rattle.fast.proofs.instructions.perform.Goals as goal
 
 pub returns-in-Two : goal.returns-in-Two

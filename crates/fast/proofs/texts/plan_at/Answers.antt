@@ -1,6 +1,5 @@
 use Rattle.fast.proofs.TextLaws.{short_planned, wide_planned}
 use native.Mathlib.Omega.{arith}
-use Rattle.std.proofs.Common.{rules}
 use Rattle.fast.proofs.texts.plan_at.Goals as goal
 
 pub returns-then-p-lt2 : goal.returns-then-p-lt2

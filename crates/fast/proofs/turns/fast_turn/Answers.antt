@@ -1,7 +1,6 @@
 use Rattle.fast.proofs.TurnLaws.{fast_goes}
 use Rattle.word.proofs.CaseLaws.{passed, missed, not_both}
 use mathlib.Core.Path.{refl, sym}
-use Rattle.std.proofs.Common.{rules}
 use Rattle.std.proofs.lemmas.Bool.{not_from_false, not_from_true}
 use Rattle.fast.proofs.turns.fast_turn.Goals as goal
 

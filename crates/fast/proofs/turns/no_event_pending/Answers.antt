@@ -1,7 +1,6 @@
 use Rattle.fast.proofs.TurnLaws.{pending_so}
 use Rattle.word.proofs.CaseLaws.{passed, not_both}
-use Rattle.std.proofs.Common.{rules}
-use Rattle.std.proofs.lemmas.Bool.{not_from_false, not_from_true}
+use Rattle.std.proofs.lemmas.Bool.{not_from_true}
 use Rattle.fast.proofs.turns.no_event_pending.Goals as goal
 
 pub returns-then-level-eq0 : goal.returns-then-level-eq0

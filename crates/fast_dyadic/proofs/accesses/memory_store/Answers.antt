@@ -2,7 +2,7 @@ use Rattle.fast_dyadic.proofs.AccessLaws.{uncached_stored, uncached_kept}
 use Rattle.word.proofs.CaseLaws.{passed, not_both}
 use mathlib.Core.Path.{refl, sym}
 use Rattle.std.proofs.Common.{rules}
-use Rattle.std.proofs.lemmas.Bool.{not_from_false, not_from_true}
+use Rattle.std.proofs.lemmas.Bool.{not_from_true}
 use Rattle.fast_dyadic.proofs.accesses.memory_store.Goals as goal
 
 pub returns-then-not-aligned : goal.returns-then-not-aligned

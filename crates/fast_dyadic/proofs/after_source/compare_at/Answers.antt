@@ -2,7 +2,6 @@ use Rattle.fast_dyadic.proofs.AfterSourceLaws.{compared}
 use Rattle.fast_dyadic.proofs.CacheWordLaws.{flag_holds}
 use Rattle.word.proofs.CaseLaws.{not_both}
 use mathlib.Core.Path.{refl, sym}
-use Rattle.std.proofs.Common.{rules}
 use Rattle.fast_dyadic.proofs.after_source.compare_at.Goals as goal
 
 pub returns-then-y-ge-NOT_TAKEN : goal.returns-then-y-ge-NOT_TAKEN

@@ -2,7 +2,6 @@ use Rattle.fast_dyadic.proofs.AfterSourceLaws.{computed}
 use Rattle.fast_dyadic.proofs.CacheWordLaws.{flags_hold}
 use Rattle.word.proofs.CaseLaws.{passed, missed, not_both}
 use mathlib.Core.Path.{refl, sym}
-use Rattle.std.proofs.Common.{rules}
 use Rattle.std.proofs.lemmas.Bool.{not_from_false, not_from_true}
 use Rattle.fast_dyadic.proofs.after_source.compute_at.Goals as goal
 

@@ -1,7 +1,6 @@
 use Rattle.fast_dyadic.proofs.AfterSourceLaws.{computes, accumulates, compares, moves}
 use Rattle.word.proofs.CaseLaws.{not_both}
 use mathlib.Core.Path.{refl}
-use Rattle.std.proofs.Common.{rules}
 use Rattle.fast_dyadic.proofs.after_source.fast_finish.Goals as goal
 
 pub returns-then-k-ge-NOWHERE : goal.returns-then-k-ge-NOWHERE

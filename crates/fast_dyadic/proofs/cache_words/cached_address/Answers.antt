@@ -1,6 +1,5 @@
 use mathlib.Core.Path.{sym, ◌∙◌}
 use native.Mathlib.Omega.{arith}
-use Rattle.std.proofs.Common.{rules}
 use Rattle.fast_dyadic.proofs.cache_words.cached_address.Goals as goal
 
 pub returns-then-a-eq0 : goal.returns-then-a-eq0

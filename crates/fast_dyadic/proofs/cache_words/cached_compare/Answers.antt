@@ -1,5 +1,4 @@
 use Rattle.fast_dyadic.proofs.CacheWordLaws.{rest_compare, flag_holds}
-use Rattle.std.proofs.Common.{rules}
 use Rattle.fast_dyadic.proofs.cache_words.cached_compare.Goals as goal
 
 pub returns : goal.returns

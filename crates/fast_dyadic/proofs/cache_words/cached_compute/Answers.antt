@@ -1,7 +1,6 @@
 use Rattle.fast_dyadic.proofs.CacheWordLaws.{rest_compute, flags_hold}
 use Rattle.word.proofs.CaseLaws.{not_both}
 use mathlib.Core.Path.{refl, sym}
-use Rattle.std.proofs.Common.{rules}
 use Rattle.fast_dyadic.proofs.cache_words.cached_compute.Goals as goal
 
 pub returns-then-divides-x : goal.returns-then-divides-x

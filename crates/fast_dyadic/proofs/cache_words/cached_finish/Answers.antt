@@ -1,7 +1,6 @@
 use Rattle.fast_dyadic.proofs.CacheWordLaws.{finish_known, rest_move}
 use Rattle.word.proofs.CaseLaws.{not_both}
 use mathlib.Core.Path.{refl, sym}
-use Rattle.std.proofs.Common.{rules}
 use Rattle.fast_dyadic.proofs.cache_words.cached_finish.Goals as goal
 
 pub returns-in-Compute : goal.returns-in-Compute

@@ -1,7 +1,6 @@
 use Rattle.fast_dyadic.proofs.CacheWordLaws.{cached_low}
 use Rattle.fast_dyadic.proofs.TwoLaws.{finish_cached}
 use mathlib.Core.Path.{refl}
-use Rattle.std.proofs.Common.{rules}
 use Rattle.fast_dyadic.proofs.two.finish.Goals as goal
 
 pub cached_finish-requires : goal.cached_finish-requires

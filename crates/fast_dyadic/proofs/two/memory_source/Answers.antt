@@ -1,6 +1,5 @@
 use Rattle.fast_dyadic.proofs.TwoLaws.{source_uncached}
 use native.Mathlib.Omega.{arith}
-use Rattle.std.proofs.Common.{rules}
 use Rattle.fast_dyadic.proofs.two.memory_source.Goals as goal
 
 pub returns-then-k-ge-NOWHERE : goal.returns-then-k-ge-NOWHERE

@@ -1,5 +1,4 @@
 use Rattle.fast_dyadic.proofs.TwoLaws.{source_cached}
-use Rattle.std.proofs.Common.{rules}
 use Rattle.fast_dyadic.proofs.two.source.Goals as goal
 
 pub returns-then-x-lt-NOT_TAKEN : goal.returns-then-x-lt-NOT_TAKEN

@@ -1,5 +1,4 @@
-use Prim.Native.Nat.{◌-◌}
-use Rattle.hobbit.proofs.ByteLaws.{Copied, copied_none, copied_more, copied_all}
+use Rattle.hobbit.proofs.ByteLaws.{copied_none, copied_more, copied_all}
 use Rattle.std.proofs.Common.{rules}
 use Rattle.hobbit.proofs.bytes.copy_in.Goals as goal
 

@@ -1,6 +1,5 @@
 use Prim.Native.Nat.{◌-◌}
-use Rattle.hobbit.proofs.ByteLaws.{Copied, copied_none, copied_more, copied_all}
-use Rattle.std.proofs.Common.{rules}
+use Rattle.hobbit.proofs.ByteLaws.{Copied}
 use Rattle.hobbit.proofs.bytes.copy_in.Given as goal
 
 abbrev pub invariant-loop-k : goal.invariant-loop-k

@@ -1,6 +1,4 @@
-use Prim.Native.Nat.{◌-◌}
-use lib.ListN.{length, take, drop}
-use Rattle.machine.proofs.FlatLaws.{Front, front_none}
+use Rattle.machine.proofs.FlatLaws.{front_none}
 use Rattle.hobbit.proofs.ByteLaws.{loaded_more, loaded_all}
 use Rattle.std.proofs.Common.{rules}
 use Rattle.hobbit.proofs.bytes.copy_out.Goals as goal

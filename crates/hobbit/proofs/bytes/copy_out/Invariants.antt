@@ -1,8 +1,6 @@
 use Prim.Native.Nat.{◌-◌}
 use lib.ListN.{length, take, drop}
-use Rattle.machine.proofs.FlatLaws.{Front, front_none}
-use Rattle.hobbit.proofs.ByteLaws.{loaded_more, loaded_all}
-use Rattle.std.proofs.Common.{rules}
+use Rattle.machine.proofs.FlatLaws.{Front}
 use Rattle.hobbit.proofs.bytes.copy_out.Given as goal
 
 abbrev pub invariant-loop-k : goal.invariant-loop-k

@@ -1,5 +1,4 @@
 use Rattle.hobbit.proofs.ByteLaws.{load_done, load_past, past_far, past_long}
-use Rattle.std.proofs.Common.{rules}
 use Rattle.hobbit.proofs.bytes.hobbit_load.Goals as goal
 
 pub returns-then-a-memory : goal.returns-then-a-memory

@@ -1,5 +1,4 @@
 use Rattle.hobbit.proofs.ByteLaws.{store_done, store_past, past_far, past_long}
-use Rattle.std.proofs.Common.{rules}
 use Rattle.hobbit.proofs.bytes.hobbit_store.Goals as goal
 
 pub returns-then-a-memory : goal.returns-then-a-memory

@@ -1,6 +1,5 @@
 use mathlib.Core.Path.{refl}
 use Rattle.hobbit_blocks.proofs.BlockLaws.{block_at}
-use Rattle.std.proofs.Common.{rules}
 use Rattle.hobbit_blocks.proofs.blocks.block_of.Goals as goal
 
 pub returns-in-Short : goal.returns-in-Short

@@ -1,5 +1,4 @@
 use Rattle.hobbit_blocks.proofs.WordLaws.{row_held, row_other}
-use Rattle.std.proofs.Common.{rules}
 use Rattle.hobbit_blocks.proofs.words.row_code.Goals as goal
 
 pub returns-then-listed-r : goal.returns-then-listed-r

@@ -1,7 +1,7 @@
 use Rattle.hobbit_blocks.proofs.WordLaws.{a_parcel, short_at, short_row, short_none}
 use native.Mathlib.Omega.{arith}
 use Rattle.std.proofs.Common.{rules}
-use Rattle.std.proofs.lemmas.Bool.{not_from_false, not_from_true}
+use Rattle.std.proofs.lemmas.Bool.{not_from_true}
 use Rattle.hobbit_blocks.proofs.words.short_code.Goals as goal
 
 pub returns-then-not-r-w : goal.returns-then-not-r-w

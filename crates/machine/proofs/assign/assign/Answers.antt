@@ -1,5 +1,4 @@
 use borrow.Author.Tests.{eq-eqb, ne_eqb}
-use Rattle.std.proofs.Common.{rules}
 use Rattle.machine.proofs.assign.assign.Goals as goal
 
 pub returns-then-k-eq-ID_PLACE : goal.returns-then-k-eq-ID_PLACE

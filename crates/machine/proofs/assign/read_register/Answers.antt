@@ -1,5 +1,4 @@
 use Rattle.machine.proofs.AssignLaws.{below_registers, above_registers, is_register_law, none_read, register_read}
-use Rattle.std.proofs.Common.{rules}
 use Rattle.machine.proofs.assign.read_register.Goals as goal
 
 pub returns-then-place-lt1 : goal.returns-then-place-lt1

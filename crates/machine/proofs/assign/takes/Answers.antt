@@ -1,5 +1,4 @@
 use Rattle.machine.proofs.AssignLaws.{takes_made}
-use Rattle.std.proofs.Common.{rules}
 use Rattle.machine.proofs.assign.takes.Goals as goal
 
 pub returns : goal.returns

@@ -1,6 +1,5 @@
 use Rattle.word.specs.declared.Width.TheVariants.{Byte, Half}
 use Rattle.machine.proofs.CacheLaws.{bytes_read, word_read}
-use Rattle.std.proofs.Common.{rules}
 use Rattle.machine.proofs.cache.cache_read.Goals as goal
 
 pub returns-in-Byte : goal.returns-in-Byte

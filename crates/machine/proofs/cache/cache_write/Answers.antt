@@ -1,7 +1,6 @@
 use mathlib.Core.Path.{◌∙◌}
 use Rattle.word.specs.declared.Width.TheVariants.{Byte, Half}
 use Rattle.machine.proofs.CacheLaws.{bytes_written, word_written}
-use Rattle.std.proofs.Common.{rules}
 use Rattle.machine.proofs.cache.cache_write.Goals as goal
 
 pub returns-in-Byte : goal.returns-in-Byte

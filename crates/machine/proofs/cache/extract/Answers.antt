@@ -1,6 +1,5 @@
 use mathlib.Core.Path.{◌∙◌}
 use Rattle.machine.proofs.CacheLaws.{extract_field}
-use Rattle.std.proofs.Common.{rules}
 use Rattle.machine.proofs.cache.extract.Goals as goal
 
 pub returns : goal.returns

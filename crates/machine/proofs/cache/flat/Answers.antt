@@ -1,6 +1,4 @@
-use Prim.Native.Nat.{◌-◌, ◌*◌}
-use Rattle.machine.specs.Cache.{flat_to}
-use Rattle.machine.proofs.FlatLaws.{Front, front_none, flat_more, flat_all}
+use Rattle.machine.proofs.FlatLaws.{front_none, flat_more, flat_all}
 use Rattle.std.proofs.Common.{rules}
 use Rattle.machine.proofs.cache.flat.Goals as goal
 

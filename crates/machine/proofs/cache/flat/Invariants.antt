@@ -1,7 +1,6 @@
 use Prim.Native.Nat.{◌-◌, ◌*◌}
 use Rattle.machine.specs.Cache.{flat_to}
-use Rattle.machine.proofs.FlatLaws.{Front, front_none, flat_more, flat_all}
-use Rattle.std.proofs.Common.{rules}
+use Rattle.machine.proofs.FlatLaws.{Front}
 use Rattle.machine.proofs.cache.flat.Given as goal
 
 abbrev pub invariant-loop-i : goal.invariant-loop-i

@@ -1,5 +1,4 @@
 use Rattle.machine.proofs.CacheLaws.{insert_shifted}
-use Rattle.std.proofs.Common.{rules}
 use Rattle.machine.proofs.cache.insert.Goals as goal
 
 pub returns : goal.returns

@@ -1,6 +1,4 @@
-use Prim.Native.Nat.{◌-◌}
-use Rattle.machine.specs.Cache.{quads_to}
-use Rattle.machine.proofs.FlatLaws.{Front, front_none, quads_more, quads_all}
+use Rattle.machine.proofs.FlatLaws.{front_none, quads_more, quads_all}
 use Rattle.std.proofs.Common.{rules}
 use Rattle.machine.proofs.cache.quads.Goals as goal
 

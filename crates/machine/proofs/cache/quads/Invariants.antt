@@ -1,7 +1,6 @@
 use Prim.Native.Nat.{◌-◌}
 use Rattle.machine.specs.Cache.{quads_to}
-use Rattle.machine.proofs.FlatLaws.{Front, front_none, quads_more, quads_all}
-use Rattle.std.proofs.Common.{rules}
+use Rattle.machine.proofs.FlatLaws.{Front}
 use Rattle.machine.proofs.cache.quads.Given as goal
 
 abbrev pub invariant-loop-i : goal.invariant-loop-i

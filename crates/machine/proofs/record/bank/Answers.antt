@@ -5,7 +5,6 @@ use lib.ListN.{length}
 use Rattle.machine.specs.Record.{dues}
 use Rattle.machine.proofs.SizeLaws.{registers_13}
 use Rattle.machine.proofs.WordLaws.{words_all}
-use Rattle.std.proofs.Common.{rules}
 use Rattle.machine.proofs.record.bank.Goals as goal
 
 pub returns : goal.returns

@@ -1,7 +1,6 @@
 use Prim.Native.Nat.{ℕ}
 use mathlib.Core.Path.{ap}
 use lib.Dec.{eqb}
-use Rattle.std.proofs.Common.{rules}
 use Rattle.machine.proofs.registers.clean.Goals as goal
 
 pub returns : goal.returns

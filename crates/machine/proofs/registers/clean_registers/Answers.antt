@@ -1,5 +1,4 @@
-use Prim.Native.Nat.{◌-◌}
-use Rattle.machine.proofs.RegisterLaws.{CleanSoFar, clean_none, clean_more, clean_all}
+use Rattle.machine.proofs.RegisterLaws.{clean_none, clean_more, clean_all}
 use Rattle.std.proofs.Common.{rules}
 use Rattle.machine.proofs.registers.clean_registers.Goals as goal
 

@@ -1,6 +1,5 @@
 use Prim.Native.Nat.{◌-◌}
-use Rattle.machine.proofs.RegisterLaws.{CleanSoFar, clean_none, clean_more, clean_all}
-use Rattle.std.proofs.Common.{rules}
+use Rattle.machine.proofs.RegisterLaws.{CleanSoFar}
 use Rattle.machine.proofs.registers.clean_registers.Given as goal
 
 abbrev pub invariant-loop-k : goal.invariant-loop-k

@@ -1,4 +1,3 @@
-use Rattle.std.proofs.Common.{rules}
 use Rattle.machine.proofs.RegisterLaws.{kept_masked}
 use Rattle.machine.proofs.registers.unreserved.Goals as goal
 

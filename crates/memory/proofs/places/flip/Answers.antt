@@ -1,4 +1,3 @@
-use Rattle.std.proofs.Common.{rules}
 use Rattle.memory.proofs.places.flip.Goals as goal
 
 pub returns-in-Byte : goal.returns-in-Byte

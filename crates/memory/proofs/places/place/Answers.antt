@@ -1,4 +1,3 @@
-use Rattle.std.proofs.Common.{rules}
 use Rattle.memory.proofs.places.place.Goals as goal
 
 pub returns-then-little : goal.returns-then-little

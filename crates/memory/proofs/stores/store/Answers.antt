@@ -1,4 +1,3 @@
-use Rattle.std.proofs.Common.{rules}
 use Rattle.memory.proofs.stores.store.Goals as goal
 
 pub returns-in-Byte : goal.returns-in-Byte

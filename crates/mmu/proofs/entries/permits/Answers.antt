@@ -1,4 +1,3 @@
-use Rattle.std.proofs.Common.{rules}
 use Rattle.mmu.proofs.entries.permits.Goals as goal
 
 pub returns : goal.returns

@@ -1,5 +1,4 @@
 use Rattle.mmu.specs.Walk.{route}
-use Rattle.std.proofs.Common.{rules}
 use Rattle.mmu.proofs.translation.route.Goals as goal
 
 pub returns-then-translated : goal.returns-then-translated

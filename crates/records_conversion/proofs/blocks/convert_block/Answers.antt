@@ -1,7 +1,5 @@
-use Rattle.records_conversion.proofs.BlockLaws.{Converting, converting_none, converting_refused, converting_more, converting_over}
-use Rattle.records_conversion.specs.Loop.{progress}
-use Rattle.hex_digits.specs.Output.{output}
-use Rattle.std.proofs.Common.{◌≡◌, ◌-◌, false, length, arith, rules}
+use Rattle.records_conversion.proofs.BlockLaws.{converting_none, converting_refused, converting_more, converting_over}
+use Rattle.std.proofs.Common.{arith, rules}
 use Rattle.records_conversion.proofs.blocks.convert_block.Goals as goal
 
 pub loop-to-init : goal.loop-to-init

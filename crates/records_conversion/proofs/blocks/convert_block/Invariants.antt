@@ -1,7 +1,7 @@
-use Rattle.records_conversion.proofs.BlockLaws.{Converting, converting_none, converting_refused, converting_more, converting_over}
+use Rattle.records_conversion.proofs.BlockLaws.{Converting}
 use Rattle.records_conversion.specs.Loop.{progress}
 use Rattle.hex_digits.specs.Output.{output}
-use Rattle.std.proofs.Common.{◌≡◌, ◌-◌, false, length, arith, rules}
+use Rattle.std.proofs.Common.{◌≡◌, ◌-◌, false, length}
 use Rattle.records_conversion.proofs.blocks.convert_block.Given as goal
 
 abbrev pub invariant-loop-to : goal.invariant-loop-to

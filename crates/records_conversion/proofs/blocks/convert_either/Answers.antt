@@ -1,6 +1,5 @@
 use Rattle.records_conversion.proofs.LineLaws.{either_way}
 use Rattle.records_conversion.specs.declared.Way.TheVariants.{In, Out}
-use Rattle.std.proofs.Common.{rules}
 use Rattle.records_conversion.proofs.blocks.convert_either.Goals as goal
 
 pub returns-in-In : goal.returns-in-In

@@ -1,5 +1,4 @@
 use Rattle.records_conversion.proofs.LineLaws.{line_accepted, line_refused}
-use Rattle.std.proofs.Common.{rules}
 use Rattle.records_conversion.proofs.blocks.convert_line.Goals as goal
 
 pub returns-then-c-eq0 : goal.returns-then-c-eq0

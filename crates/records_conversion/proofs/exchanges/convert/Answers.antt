@@ -1,4 +1,4 @@
-use Rattle.std.proofs.Common.{sym, length-take-le, rules}
+use Rattle.std.proofs.Common.{sym, length-take-le}
 use Rattle.records_conversion.proofs.ExchangeLaws.{exchange_is}
 use Rattle.records_conversion.proofs.exchanges.convert.Goals as goal
 

@@ -1,4 +1,4 @@
-use Rattle.std.proofs.Common.{sym, length-take-le, rules}
+use Rattle.std.proofs.Common.{sym, length-take-le}
 use Rattle.records_conversion.proofs.ExchangeLaws.{none_left, one_left}
 use Rattle.records_conversion.proofs.exchanges.finish.Goals as goal
 

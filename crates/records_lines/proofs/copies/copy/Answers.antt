@@ -1,5 +1,5 @@
-use Rattle.std.proofs.Common.{◌-◌, rules}
-use Rattle.records_lines.proofs.CopyLaws.{Copying, copying_none, copying_more, copying_all}
+use Rattle.std.proofs.Common.{rules}
+use Rattle.records_lines.proofs.CopyLaws.{copying_none, copying_more, copying_all}
 use Rattle.records_lines.proofs.copies.copy.Goals as goal
 
 pub loop-k-init : goal.loop-k-init

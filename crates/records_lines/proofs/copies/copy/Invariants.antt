@@ -1,5 +1,5 @@
-use Rattle.std.proofs.Common.{◌-◌, rules}
-use Rattle.records_lines.proofs.CopyLaws.{Copying, copying_none, copying_more, copying_all}
+use Rattle.std.proofs.Common.{◌-◌}
+use Rattle.records_lines.proofs.CopyLaws.{Copying}
 use Rattle.records_lines.proofs.copies.copy.Given as goal
 
 abbrev pub invariant-loop-k : goal.invariant-loop-k

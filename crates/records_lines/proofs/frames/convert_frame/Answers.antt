@@ -1,5 +1,4 @@
 use Rattle.records_lines.proofs.ConversionLaws.{bad_line, set_line, run_line, confined_line, store_line, store_put}
-use Rattle.std.proofs.Common.{rules}
 use Rattle.records_lines.proofs.frames.convert_frame.Goals as goal
 
 pub put_record-place-requires : goal.put_record-place-requires

@@ -1,5 +1,5 @@
 use Rattle.records_lines.proofs.StoreLaws.{record_in, record_out}
-use Rattle.std.proofs.Common.{arith, rules}
+use Rattle.std.proofs.Common.{arith}
 use Rattle.records_lines.proofs.frames.put_record.Goals as goal
 
 pub returns-then-size-out : goal.returns-then-size-out

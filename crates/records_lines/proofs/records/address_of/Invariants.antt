@@ -1,5 +1,5 @@
-use Rattle.records_lines.proofs.SumLaws.{Addressing, addressing_none, addressing_more, addressing_all, addressing_fits}
-use Rattle.std.proofs.Common.{◌-◌, arith, rules}
+use Rattle.records_lines.proofs.SumLaws.{Addressing}
+use Rattle.std.proofs.Common.{◌-◌}
 use Rattle.records_lines.proofs.records.address_of.Given as goal
 
 abbrev pub invariant-loop-k : goal.invariant-loop-k

@@ -1,5 +1,5 @@
-use Rattle.records_lines.proofs.FrameLaws.{Framing, framing_none, framing_less, framing_room, framing_more, framing_all}
-use Rattle.std.proofs.Common.{◌-◌, rules}
+use Rattle.records_lines.proofs.FrameLaws.{framing_none, framing_less, framing_room, framing_more, framing_all}
+use Rattle.std.proofs.Common.{rules}
 use Rattle.records_lines.proofs.records.put_each.Goals as goal
 
 pub loop-i-init : goal.loop-i-init

@@ -1,5 +1,4 @@
 use Rattle.records_lines.proofs.FrameLaws.{frame_put}
-use Rattle.std.proofs.Common.{arith, length-set, rules}
 use Rattle.records_lines.proofs.records.put_frame.Goals as goal
 
 pub returns : goal.returns

@@ -1,5 +1,5 @@
 use Rattle.records_lines.proofs.FrameLaws.{frames_room, frames_in, frames_out}
-use Rattle.std.proofs.Common.{refl, arith, rules}
+use Rattle.std.proofs.Common.{refl, arith}
 use Rattle.records_lines.proofs.records.put_frames.Goals as goal
 
 pub put_each-requires : goal.put_each-requires

@@ -1,5 +1,5 @@
-use Rattle.std.proofs.Common.{◌-◌, rules}
-use Rattle.records_lines.proofs.SumLaws.{Summing, summing_none, summing_more, summing_all}
+use Rattle.std.proofs.Common.{rules}
+use Rattle.records_lines.proofs.SumLaws.{summing_none, summing_more, summing_all}
 use Rattle.records_lines.proofs.sums.low_sum.Goals as goal
 
 pub loop-i-init : goal.loop-i-init

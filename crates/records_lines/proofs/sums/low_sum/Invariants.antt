@@ -1,5 +1,5 @@
-use Rattle.std.proofs.Common.{◌-◌, rules}
-use Rattle.records_lines.proofs.SumLaws.{Summing, summing_none, summing_more, summing_all}
+use Rattle.std.proofs.Common.{◌-◌}
+use Rattle.records_lines.proofs.SumLaws.{Summing}
 use Rattle.records_lines.proofs.sums.low_sum.Given as goal
 
 abbrev pub invariant-loop-i : goal.invariant-loop-i

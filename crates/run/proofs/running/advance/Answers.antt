@@ -1,10 +1,7 @@
-use Prim.Native.Nat.{◌-◌}
-use mathlib.Core.Path.{◌≡◌, refl}
-use lib.ListN.{length}
+use mathlib.Core.Path.{refl}
 use Rattle.machine.specs.Status.{cpu}
 use Rattle.run_spec.specs.Run.{board, turn_of}
-use Rattle.run.proofs.RunLaws.{Going, going_begun, going_more, going_stopped, going_end}
-use Rattle.std.proofs.Common.{rules}
+use Rattle.run.proofs.RunLaws.{going_begun, going_more, going_stopped, going_end}
 use Rattle.run.proofs.running.advance.Goals as goal
 
 pub loop-n-init : goal.loop-n-init

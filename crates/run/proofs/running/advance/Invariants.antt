@@ -1,10 +1,9 @@
 use Prim.Native.Nat.{◌-◌}
-use mathlib.Core.Path.{◌≡◌, refl}
+use mathlib.Core.Path.{◌≡◌}
 use lib.ListN.{length}
 use Rattle.machine.specs.Status.{cpu}
 use Rattle.run_spec.specs.Run.{board, turn_of}
-use Rattle.run.proofs.RunLaws.{Going, going_begun, going_more, going_stopped, going_end}
-use Rattle.std.proofs.Common.{rules}
+use Rattle.run.proofs.RunLaws.{Going}
 use Rattle.run.proofs.running.advance.Given as goal
 
 abbrev pub invariant-loop-n : goal.invariant-loop-n

@@ -1,5 +1,4 @@
 use Rattle.run.proofs.RunLaws.{refuses_board, refuses_register, refuses_level, refuses_confined, refuses_nothing}
-use Rattle.std.proofs.Common.{rules}
 use Rattle.std.proofs.lemmas.Bool.{not_from_false, not_from_true}
 use Rattle.run.proofs.running.refusal.Goals as goal
 

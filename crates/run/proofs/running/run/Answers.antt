@@ -1,5 +1,4 @@
 use Rattle.run.proofs.RunLaws.{run_machine}
-use Rattle.std.proofs.Common.{rules}
 use Rattle.run.proofs.running.run.Goals as goal
 
 pub returns : goal.returns

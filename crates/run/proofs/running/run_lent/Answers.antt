@@ -1,7 +1,6 @@
 use Rattle.run.proofs.RunLaws.{words_whole, run_refused, run_none, run_advanced}
 use Rattle.machine.specs.Status.{cpu}
 use Rattle.run_spec.specs.Run.{board}
-use Rattle.std.proofs.Common.{rules}
 use Rattle.run.proofs.running.run_lent.Goals as goal
 
 pub returns-then-e-ne0 : goal.returns-then-e-ne0

@@ -1,7 +1,6 @@
 use mathlib.Core.Path.{ap}
 use Rattle.run_spec.specs.Run.{RunResult}
 use Rattle.run.specs.Code.{StepResult}
-use Rattle.std.proofs.Common.{rules}
 use Rattle.run.proofs.running.step.Goals as goal
 
 pub returns : goal.returns

@@ -1,6 +1,5 @@
-use mathlib.Core.Path.{refl, ◌∙◌}
+use mathlib.Core.Path.{refl}
 use Rattle.run.proofs.TurnLaws.{begun_long, confined_event, confined_long, confined_settled}
-use Rattle.std.proofs.Common.{rules}
 use Rattle.run.proofs.turns.confined_turn.Goals as goal
 
 pub returns-then-due-ne0 : goal.returns-then-due-ne0

@@ -3,7 +3,6 @@ use mathlib.Core.Bool.{Bool, not}
 use Rattle.machine.specs.Registers.{word, config}
 use Rattle.machine.specs.Status.{cpu}
 use Rattle.step_spec.specs.Timers.{counted}
-use Rattle.std.proofs.Common.{rules}
 use Rattle.run.proofs.turns.count_turn.Goals as goal
 
 pub returns : goal.returns

@@ -1,6 +1,5 @@
 use mathlib.Core.Path.{refl}
 use Rattle.run.proofs.TurnLaws.{settle_done, settle_fault, settle_fetched}
-use Rattle.std.proofs.Common.{rules}
 use Rattle.run.proofs.turns.end_attempt.Goals as goal
 
 pub returns-then-x-lt-FINISHED : goal.returns-then-x-lt-FINISHED

@@ -4,7 +4,6 @@ use Rattle.memory.specs.Bytes.{Memory}
 use Rattle.access_spec.specs.Journal.{undo}
 use Rattle.machine.specs.Status.{cpu}
 use Rattle.run_spec.specs.Run.{board}
-use Rattle.std.proofs.Common.{rules}
 use Rattle.run.proofs.turns.judge.Goals as goal
 
 pub returns-then-stack_held : goal.returns-then-stack_held

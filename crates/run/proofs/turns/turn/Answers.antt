@@ -1,6 +1,4 @@
 use Rattle.run.proofs.TurnLaws.{turn_taken, turn_long}
-use mathlib.Core.Path.{◌∙◌}
-use Rattle.std.proofs.Common.{rules}
 use Rattle.run.proofs.turns.turn.Goals as goal
 
 pub returns : goal.returns

@@ -1,7 +1,6 @@
 use Rattle.step.proofs.EventLaws.{trace_taken, interrupt_taken}
 use Prim.Native.Nat.{◌%◌}
 use Rattle.access_spec.specs.Journal.{journaled}
-use Rattle.std.proofs.Common.{rules}
 use Rattle.step.proofs.events.event_step.Goals as goal
 
 pub returns-then-k-eq-TRACE : goal.returns-then-k-eq-TRACE

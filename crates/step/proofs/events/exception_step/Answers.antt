@@ -1,6 +1,5 @@
 use Rattle.step.proofs.EventLaws.{exception_resets, exception_taken}
 use Rattle.access_spec.specs.Journal.{journaled}
-use Rattle.std.proofs.Common.{rules}
 use Rattle.step.proofs.events.exception_step.Goals as goal
 
 pub returns-then-e-eq0 : goal.returns-then-e-eq0

@@ -1,5 +1,4 @@
 use Rattle.step.proofs.EventLaws.{settled_reset, settled_done}
-use Rattle.std.proofs.Common.{rules}
 use Rattle.step.proofs.events.settle.Goals as goal
 
 pub returns-then-x-ge-EXCEPTION : goal.returns-then-x-ge-EXCEPTION

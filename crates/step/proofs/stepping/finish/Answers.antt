@@ -1,6 +1,5 @@
 use Rattle.step.proofs.StepLaws.{finish_exception, finish_instruction, finish_sequence}
 use Rattle.access_spec.specs.Journal.{journaled}
-use Rattle.std.proofs.Common.{rules}
 use Rattle.step.proofs.stepping.finish.Goals as goal
 
 pub returns-then-x-ge-EXCEPTION : goal.returns-then-x-ge-EXCEPTION

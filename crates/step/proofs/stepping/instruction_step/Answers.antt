@@ -1,7 +1,5 @@
 use Rattle.step.proofs.StepLaws.{instruction_stepped}
-use mathlib.Core.Path.{◌∙◌}
 use Rattle.access_spec.specs.Journal.{journaled}
-use Rattle.std.proofs.Common.{rules}
 use Rattle.step.proofs.stepping.instruction_step.Goals as goal
 
 pub returns : goal.returns

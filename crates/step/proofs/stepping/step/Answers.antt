@@ -1,6 +1,5 @@
 use Rattle.step.proofs.StepLaws.{steps_instruction, steps_event}
 use Rattle.access_spec.specs.Journal.{journaled}
-use Rattle.std.proofs.Common.{rules}
 use Rattle.step.proofs.stepping.step.Goals as goal
 
 pub returns-then-due-eq0 : goal.returns-then-due-eq0

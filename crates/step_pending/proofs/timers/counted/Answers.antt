@@ -1,5 +1,4 @@
 use Rattle.step_pending.proofs.TimerLaws.{both_counted}
-use Rattle.std.proofs.Common.{rules}
 use Rattle.step_pending.proofs.timers.counted.Goals as goal
 
 pub returns : goal.returns

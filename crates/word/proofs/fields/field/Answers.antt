@@ -1,4 +1,4 @@
-use Rattle.std.proofs.Common.{◌%◌, arith, rules}
+use Rattle.std.proofs.Common.{◌%◌, arith}
 use Rattle.word.proofs.FieldLaws.{ones_fit, field_masked}
 use Rattle.word.proofs.fields.field.Goals as goal
 

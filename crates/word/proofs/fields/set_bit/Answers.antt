@@ -1,4 +1,4 @@
-use Rattle.std.proofs.Common.{◌%◌, arith, rules}
+use Rattle.std.proofs.Common.{◌%◌, arith}
 use Rattle.word.proofs.FieldLaws.{set_masked}
 use Rattle.word.proofs.fields.set_bit.Goals as goal
 

@@ -1,4 +1,3 @@
-use Rattle.std.proofs.Common.{rules}
 use Rattle.word.proofs.products.differ.Goals as goal
 
 pub returns : goal.returns

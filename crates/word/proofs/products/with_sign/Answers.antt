@@ -1,4 +1,4 @@
-use Rattle.std.proofs.Common.{arith, rules}
+use Rattle.std.proofs.Common.{arith}
 use Rattle.word.proofs.products.with_sign.Goals as goal
 
 pub returns-then-negative : goal.returns-then-negative

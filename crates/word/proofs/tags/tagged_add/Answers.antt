@@ -1,5 +1,4 @@
 use Rattle.word.specs.Tags.{tagged_add_of}
-use Rattle.std.proofs.Common.{rules}
 use Rattle.word.proofs.tags.tagged_add.Goals as goal
 
 pub returns : goal.returns

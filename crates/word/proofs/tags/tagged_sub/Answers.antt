@@ -1,5 +1,4 @@
 use Rattle.word.specs.Tags.{tagged_sub_of}
-use Rattle.std.proofs.Common.{rules}
 use Rattle.word.proofs.tags.tagged_sub.Goals as goal
 
 pub returns : goal.returns
