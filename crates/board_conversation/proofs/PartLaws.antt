@@ -42,13 +42,14 @@ module _ (b : List ℕ) (from end e f : ℕ) (le : Least end (length b) e) (lf :
         ∙ exchange_is (drop (f + r) (take e b))
         (beyond r ∙ ap (λ (x : Bool). cond x (drop r (take (e - f) (drop f b))) (take 75 (drop r (take (e - f) (drop f b))))) (sym g ∙ more_is))
 
-    pub exchange_last : (k : ℕ) (c : List ℕ) → m ≡ false → take k c ≡ take 75 (drop (f + r) (take e b))
+    pub exchange_last : (k : ℕ) (c : List ℕ) → m ≡ false → take k c ≡ take 75 (take (e - (f + r)) (drop (f + r) b))
         → exchange d l (drop 0 (take k c)) false ≡ exchange_of n (drop from (take end b)) d₀
     exchange_last k c g i =
+        let w = rest_within n l r m d d₀ h in
         ap (λ (x : Bool). exchange d l (take k c) x) (sym g)
         ∙ exchange_is (take k c)
         (i
-        ∙ ap (λ (t : List ℕ). take 75 t) (beyond r)
+        ∙ ap (λ (t : List ℕ). take 75 t) (sym (drop_take (f + r) e b w) ∙ beyond r)
         ∙ ap (λ (x : Bool). cond x (drop r (take (e - f) (drop f b))) (take 75 (drop r (take (e - f) (drop f b))))) (sym g ∙ more_is))
 
   -- ---- the end of input

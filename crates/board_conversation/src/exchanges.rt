@@ -1,8 +1,8 @@
 // An exchange of the program's loop: between a read and a write.
-ghost use Rattle.std.specs.Prelude.{◌≡◌, take, drop};
+ghost use Rattle.std.specs.Prelude.{◌≡◌, ◌-◌, ◌≤◌, length, take, drop};
 ghost use Rattle.lines.specs.Texts.{next, last_line};
 ghost use Rattle.board_conversation.specs.Blocks.{lines_on};
-ghost use Rattle.board_conversation.specs.Loop.{exchange, exchange_of, beginning, totals_on};
+ghost use Rattle.board_conversation.specs.Loop.{most_carried, exchange, exchange_of, beginning, totals_on};
 ghost use Rattle.board_conversation.specs.Code.{entry_io, exit_io};
 
 use crate::LoopState;
@@ -10,11 +10,19 @@ use crate::answers::answer_line;
 use crate::blocks::answer_block;
 use board_lines::Tally;
 use board_lines::answers::put_totals;
-use lines::{carry, least};
+use lines::least;
 use machine::{Bank, Quads};
 
 // No frame is as long, so an unended line that is cut there stays bad.
 const MOST_CARRIED: usize = 75;
+
+// Part of a block to its front: how many bytes, at most as many as are kept.
+fn carry(block: &mut [u8], from: usize, end: usize) -> usize
+    requires { (from ≤ end) × (end ≤ length block.old) }
+    ensures { take result block.new ≡ take most_carried (take (end - from) (drop from block.old)) }
+{
+    lines::carry(block, from, end, MOST_CARRIED)
+}
 
 // Before the first read.
 pub fn begin() -> LoopState
@@ -58,7 +66,7 @@ pub fn converse(
     }
     LoopState {
         from: 0,
-        end: carry(block, from, e, MOST_CARRIED),
+        end: carry(block, from, e),
         more: false,
         last: t.last,
         place: t.place,

@@ -1,13 +1,9 @@
 -- Frame 02: the bytes stored so far, and the ways out.
 -- Assumes nothing.
-use Rattle.std.proofs.Common.{◌≡◌, ℕ, ◌+◌, ◌*◌, ◌<◌, ◌≤◌, List, length, get_or, set, sym, refl, ap, ◌∙◌, add-one, arith, length-set, le-leb}
+use Rattle.std.proofs.Common.{◌≡◌, ℕ, ◌+◌, ◌*◌, ◌<◌, ◌≤◌, List, length, set, sym, refl, ap, ◌∙◌, add-one, arith, length-set, le-leb}
 use borrow.Author.Tests.{lt-leb}
-use Rattle.hex_digits.specs.Digits.{digit_of, number_at}
-use Rattle.board_lines.proofs.DigitLaws.{number_2}
+use Rattle.hex_digits.specs.Digits.{number_at}
 use Rattle.board_lines.specs.Stores.{byte_count, bytes_stored, store_result, frame_store}
-
-pair : (s : List ℕ) (i j : ℕ) → j ≡ i + 1 → digit_of (get_or s i 0) * 16 + digit_of (get_or s j 0) ≡ number_at 2 s i
-pair s i j e = ap (λ (k : ℕ). digit_of (get_or s i 0) * 16 + digit_of (get_or s k 0)) e ∙ sym (number_2 s i)
 
 -- the first k bytes of a line stand from a on
 pub record Storing (s m₀ : List ℕ) (a n k : ℕ) (m : List ℕ) : Type 0 where
@@ -19,11 +15,10 @@ module _ (s m₀ : List ℕ) (a n : ℕ) where
   pub storing_none : Storing s m₀ a n 0 m₀
   storing_none = record { upto = omega arith; long = refl; held = refl }
 
-  pub storing_more : (k b : ℕ) (m : List ℕ) → Storing s m₀ a n k m → k < n
-      → b ≡ digit_of (get_or s (10 + k * 2) 0) * 16 + digit_of (get_or s (11 + k * 2) 0)
+  pub storing_more : (k b : ℕ) (m : List ℕ) → Storing s m₀ a n k m → k < n → b ≡ number_at 2 s (10 + k * 2)
       → Storing s m₀ a n (k + 1) (set m (a + k) b)
   storing_more k b m r h e =
-      record { upto = omega arith; long = length-set m (a + k) b ∙ r.long; held = rw (add-one, r.held, e ∙ pair s (10 + k * 2) (11 + k * 2) (omega arith)) refl }
+      record { upto = omega arith; long = length-set m (a + k) b ∙ r.long; held = rw (add-one, r.held, e) refl }
 
   pub storing_all : (k : ℕ) (m : List ℕ) → Storing s m₀ a n k m → n ≤ k → m ≡ bytes_stored n s m₀ a
   storing_all k m r h =

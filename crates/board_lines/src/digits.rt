@@ -69,7 +69,8 @@ pub fn all_digits(line: &[u8]) -> bool
 
 // The number of a digit, and some number of any other byte. Bit 6 is set in letters alone, whose low bits count from 1.
 pub fn number_of(b: u8) -> u8
-    ensures { result ≡ b % 16 + b / 64 * 9 }
+    ensures number { result ≡ b % 16 + b / 64 * 9 }
+    ensures digit { is_digit b ≡ true → (result ≡ digit_of b) × (result < 16) }
 {
     b % 16 + b / 64 * 9
 }
@@ -85,6 +86,14 @@ pub fn byte_of(high: u8, low: u8) -> u8
     ensures { result ≡ digit_of high * 16 + digit_of low }
 {
     value(high) * 16 + value(low)
+}
+
+// The number of the two bytes from i on, digits or not.
+pub(crate) fn any_byte_at(line: &[u8], i: usize) -> u8
+    requires { i + 2 ≤ length line.now }
+    ensures { result ≡ number_at 2 line.now i }
+{
+    byte_of(line[i], line[i + 1])
 }
 
 // The number of the two digits from i on.

@@ -2,7 +2,7 @@
 ghost use Rattle.std.specs.Prelude.{◌≡◌, ◌+◌, ◌≤◌, length};
 ghost use Rattle.board_lines.specs.Stores.{byte_count, bytes_stored, store_result, frame_store};
 
-use crate::digits::byte_of;
+use crate::digits::any_byte_at;
 
 fn count(line: &[u8]) -> usize
     ensures { result ≡ byte_count line.now }
@@ -17,7 +17,7 @@ fn store_bytes(line: &[u8], m: &mut [u8], a: usize, n: usize)
 {
     let mut k = 0;
     while k < n {
-        m[a + k] = byte_of(line[10 + k * 2], line[11 + k * 2]);
+        m[a + k] = any_byte_at(line, 10 + k * 2);
         k = k + 1;
     }
 }

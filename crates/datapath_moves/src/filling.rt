@@ -5,7 +5,7 @@ ghost use Rattle.memory.specs.Answers.{answer_of};
 ghost use Rattle.mmu.specs.declared.AccessKind.TheVariants as kind;
 ghost use Rattle.access_spec.specs.Access.{read as reads};
 ghost use Rattle.access_spec.specs.Journal.{Journal};
-ghost use Rattle.access_spec.specs.Clauses.{only_read, Interprets, AnswersReadOnly, InterpretsReadOnly};
+ghost use Rattle.access_spec.specs.Clauses.{Interprets, AnswersReadOnly, InterpretsReadOnly};
 ghost use Rattle.machine.specs.Registers.{Bank};
 ghost use Rattle.machine.specs.Cache.{Cache};
 ghost use Rattle.machine.specs.Status.{cpu};

@@ -12,7 +12,7 @@ pub loop-to-smaller : goal.loop-to-smaller
 loop-to-smaller c = omega (arith, c.loop-to.invariant.0.upto, c.loop-to.invariant.0.ends, c.loop-to-test.true)
 
 pub loop-to-preserved : goal.loop-to-preserved
-loop-to-preserved c = (answering_more _ _ _ _ _ _ _ _ c.loop-to.invariant.0 c.loop-to-test.true _ _ _ c.answer_line-t.ensures _ c.if-t.false c.wrapping_add_u32-next.ensures.value c.newline_from-to-in-loop-to.ensures, search rules, search rules)
+loop-to-preserved c = (answering_more _ _ _ _ _ _ _ _ c.loop-to.invariant.0 c.loop-to-test.true _ _ _ c.answer_line-t.ensures _ c.if-t.false c.wrapping_add_u32-next.ensures.value c.newline-to-in-loop-to.ensures, search rules, search rules)
 
 pub returns : goal.returns
 returns c = search (rules, answering_over)
