@@ -2,7 +2,7 @@
 ghost use Rattle.std.specs.Prelude.{◌≡◌};
 ghost use Rattle.machine.specs.Registers.{timer1, timer2, timer1_due, timer2_due};
 ghost use Rattle.datapath.specs.Clauses.{Becomes};
-ghost use Rattle.step_spec.specs.Timers.{counts1 as counts1Of, counts2 as counts2Of, ticked, counted as counted_of, first_counted, second_counted};
+ghost use Rattle.step_spec.specs.Timers.{counts1 as counts1_of, counts2 as counts2_of, ticked, counted as counted_of, first_counted, second_counted};
 
 use machine::Bank;
 use machine::bits::{
@@ -20,13 +20,13 @@ const INSTRUCTIONS: u32 = 1;
 
 // Whether each timer counts a step (Table 1-2), by the CONFIG and the level it began with.
 fn counts1(config: u32, kernel: bool, completed: bool) -> bool
-    ensures { result ≡ counts1Of config kernel completed }
+    ensures { result ≡ counts1_of config kernel completed }
 {
     (!bit(config, TIMER1_KERNEL) | kernel) & (!bit(config, TIMER1_INSTRUCTIONS) | completed)
 }
 
 fn counts2(config: u32, kernel: bool, completed: bool) -> bool
-    ensures { result ≡ counts2Of config kernel completed }
+    ensures { result ≡ counts2_of config kernel completed }
 {
     let event = field(config, TIMER2_EVENT, TIMER2_EVENT_BITS);
     (!bit(config, TIMER2_KERNEL) | kernel)
