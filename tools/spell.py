@@ -72,7 +72,7 @@ def renaming():
     taken = {snake(n) for n in seen if camel(n) and n[0].islower()} | {n for n in own if '_' in n}
     for path in CRATES.rglob('*'):        # other names that imports give
         if path.suffix in ('.rt', '.antt') and path.is_file():
-            own.update(re.findall(r'\bas ([a-z]\w*[A-Z]\w*)', path.read_text(encoding='utf-8')))
+            own.update(re.findall(r'\bas ([a-z]\w*(?:[A-Z]\w*|(?:-\w+)+))', path.read_text(encoding='utf-8')))
     names = {}
     for name in sorted(own):
         new = snake(name)

@@ -7,7 +7,7 @@ use native.Mathlib.Omega.{arith}
 use Rattle.word.specs.declared.Width.{Width}
 use Rattle.word.specs.Widths.{bytes_of}
 use Rattle.memory.specs.Answers.{Answer, good, raised, answer_of}
-use Rattle.memory.specs.Bytes.{Memory, place_of, holds, stored, load, store_answer, store_memory, Effect, effect as stored-with, store_of}
+use Rattle.memory.specs.Bytes.{Memory, place_of, holds, stored, load, store_answer, store_memory, Effect, effect as stored_with, store_of}
 use Rattle.memory.proofs.AnswerLaws.{answer_got, answer_high}
 use Rattle.mmu.specs.declared.AccessKind.TheVariants.{Read, Write}
 use Rattle.access_spec.specs.Access.{Access, read, write, response, access}
@@ -30,7 +30,7 @@ pub regime_is : (b : Bank) (s : ℕ) (u t : Bool) → u ≡ is_user b → t ≡ 
 regime_is b s u t eu et es =
     ap (λ (n : ℕ). regime_for n u t) es ∙ ap (λ (z : Bool). regime_for (word b stb) z t) eu ∙ ap (λ (z : Bool). regime_for (word b stb) (is_user b) z) et
 
-pub uncached_kept : (w : Width) (m n : Memory) (a v y : ℕ) → stored-with (answer_of y) n ≡ store_of (bytes_of w) m a v → 2 ^ 32 ≤ y → n ≡ m
+pub uncached_kept : (w : Width) (m n : Memory) (a v y : ℕ) → stored_with (answer_of y) n ≡ store_of (bytes_of w) m a v → 2 ^ 32 ≤ y → n ≡ m
 unfolding store_of store_answer store_memory
 uncached_kept w m n a v y e l = ap (λ (z : Effect). z.memory) e ∙ go (holds m a (bytes_of w)) (sym (answer_high y l) ∙ ap (λ (z : Effect). z.answer) e)
   where
@@ -49,7 +49,7 @@ module _ (b : Bank) (s : ℕ) (u t : Bool) (eu : u ≡ is_user b) (et : t ≡ is
       ∙ ap (λ (z : Answer). response z m) (ap (λ (n : ℕ). load (bytes_of w) m n) (sym at_place) ∙ sym e ∙ answer_got y hy)
 
   -- n is the memory after the store, y its answer
-  pub uncached_stored : x ≡ effect_free_place (regime_for s u t) Write p m → (v : ℕ) (n : Memory) → stored-with (answer_of y) n ≡ store_of (bytes_of w) m a v → access (write (regime b) w p v) m ≡ response (good 0) n
+  pub uncached_stored : x ≡ effect_free_place (regime_for s u t) Write p m → (v : ℕ) (n : Memory) → stored_with (answer_of y) n ≡ store_of (bytes_of w) m a v → access (write (regime b) w p v) m ≡ response (good 0) n
   unfolding store_of store_answer
   uncached_stored k v n e =
       write_effect_free (regime b) m x w p v hp (sym ef ∙ hf) (place_effect_free (regime b) Write p m x (rw (← regime_is b s u t eu et es) k) hx)

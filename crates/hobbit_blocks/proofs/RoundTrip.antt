@@ -42,7 +42,7 @@ use Rattle.isa.specs.Decode.{short_entry, short_answer, short_instruction, decod
 use Rattle.isa.specs.Encodings.{short_listed, dyadic_listed}
 use Rattle.isa.specs.Encode.{raw_field, source_place, short_parcel, operand_raw, mode_code}
 use Rattle.isa.proofs.BoundLaws.{operand_lt}
-use Rattle.roundtrip.proofs.RowLaws as short-rows
+use Rattle.roundtrip.proofs.RowLaws as short_rows
 use Rattle.roundtrip.proofs.DyadicTableLaws as dyadics
 use Rattle.roundtrip.proofs.MonadicLaws as monadics
 use Rattle.hobbit_blocks.specs.Numbering.{named, nothing, operand_mode, monadic_mode_place, block_of, short_named, is_short, short_in, length_agrees, operand_in, is_dyadic, dyadic_named, dyadic_in, monadic_mode_in, monadic_named, is_monadic, monadic_in, kind_in, instruction_in}
@@ -81,11 +81,11 @@ decoded_named short.Unlisted p i x y h e = let z : ◌≡◌ {A = ℕ} 0 1 = cc 
 
 -- what a row's parcel without operand bits decodes to
 abbrev bare_instruction : ShortRow → ShortListed → ShortInstruction
-bare_instruction q l = short-rows.fielded q l.source l.destination (raw_field l.source 0) (raw_field l.destination 0)
+bare_instruction q l = short_rows.fielded q l.source l.destination (raw_field l.source 0) (raw_field l.destination 0)
 
 module _ (q : ShortRow) where
-  decoded : short-rows.From (short_listed q).base (bare_instruction q (short_listed q))
-  decoded = subst (λ (p : ℕ). short-rows.From p (bare_instruction q (short_listed q))) (bare (short_listed q)) (short-rows.row q 0 0)
+  decoded : short_rows.From (short_listed q).base (bare_instruction q (short_listed q))
+  decoded = subst (λ (p : ℕ). short_rows.From p (bare_instruction q (short_listed q))) (bare (short_listed q)) (short_rows.row q 0 0)
 
   short_back : (x y : ℕ) → short_named (short_entry (short_of ((short_listed q).base / 1024 % 32)) (short_listed q).base) (short_listed q).base x y
       ≡ named (instruction.Short (record { row = q; source = x; destination = y }))

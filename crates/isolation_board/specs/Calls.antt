@@ -12,17 +12,17 @@ use Rattle.machine.specs.Cache.{Cache}
 use Rattle.machine.specs.Status.{Cpu}
 use Rattle.run_spec.specs.declared.Stopped.{Stopped}
 use Rattle.run.specs.contracts.running.run_lent as run_lent
-use Rattle.run.proofs.running.run_lent.Reads as run-lent-contract
+use Rattle.run.proofs.running.run_lent.Reads as run_lent_contract
 use Rattle.hobbit.specs.declared.HobbitAnswer.{HobbitAnswer}
 use Rattle.hobbit.specs.Blocks.{Blocks}
-use Rattle.hobbit.specs.contracts.hobbit_run as hobbit-run
-use Rattle.hobbit.proofs.hobbit_run.Reads as hobbit-run-contract
+use Rattle.hobbit.specs.contracts.hobbit_run as hobbit_run
+use Rattle.hobbit.proofs.hobbit_run.Reads as hobbit_run_contract
 use Rattle.board_lines.specs.Printouts.{Tally}
 use Rattle.board_conversation.specs.declared.LoopState.{LoopState}
 use Rattle.board_conversation.specs.contracts.exchanges.converse as converse
-use Rattle.board_conversation.proofs.exchanges.converse.Reads as converse-contract
+use Rattle.board_conversation.proofs.exchanges.converse.Reads as converse_contract
 use Rattle.board_conversation.specs.contracts.exchanges.finish as finish
-use Rattle.board_conversation.proofs.exchanges.finish.Reads as finish-contract
+use Rattle.board_conversation.proofs.exchanges.finish.Reads as finish_contract
 
 -- a reference's pointer and ghost name; no contract here says anything of them
 pub record Reference : Type 0 where
@@ -48,8 +48,8 @@ pub record RunPlaces : Type 0 where
 -- on the machine c and the memory m it answered x and left the machine d and the memory n
 abbrev pub RunLent : RunPlaces → Cpu → Memory → Bool → ℕ → ℕ → Stopped → Cpu → Memory → Type 0
 RunLent p c m confined budget level x d n =
-    run-lent-contract.Asked p.lifetimes arguments
-    → run-lent-contract.Learnt p.lifetimes arguments x (at_exit run_lent.ended p.lifetimes arguments left)
+    run_lent_contract.Asked p.lifetimes arguments
+    → run_lent_contract.Learnt p.lifetimes arguments x (at_exit run_lent.ended p.lifetimes arguments left)
   where
     arguments : Args run_lent.signature p.lifetimes
     arguments =
@@ -60,20 +60,20 @@ RunLent p c m confined budget level x d n =
     left : Lasts run_lent.ended p.lifetimes arguments
     left = (n, (d.cache, (d.bank, (tt, (tt, (tt, tt))))))
 
--- ---- `hobbit_run` of the C interface, over the blocks of a caller
+-- ---- `hobbit::hobbit_run`, over the blocks of a caller; the C interface's symbol (the crate hobbit_c) hands on what it answers, by the same contract
 
 abbrev pub HobbitRun : RunPlaces → Blocks → Bool → ℕ → ℕ → HobbitAnswer → Blocks → Type 0
 HobbitRun p s confined budget level x t =
-    hobbit-run-contract.Asked p.lifetimes arguments
-    → hobbit-run-contract.Learnt p.lifetimes arguments x (at_exit hobbit-run.ended p.lifetimes arguments left)
+    hobbit_run_contract.Asked p.lifetimes arguments
+    → hobbit_run_contract.Learnt p.lifetimes arguments x (at_exit hobbit_run.ended p.lifetimes arguments left)
   where
-    arguments : Args hobbit-run.signature p.lifetimes
+    arguments : Args hobbit_run.signature p.lifetimes
     arguments =
         let registers = lent_at p.bank s.registers in
         let cache = lent_at p.cache s.cache in
         (lent_at p.memory s.memory, (registers, (cache, (confined, (budget, (level, tt))))))
 
-    left : Lasts hobbit-run.ended p.lifetimes arguments
+    left : Lasts hobbit_run.ended p.lifetimes arguments
     left = (t.memory, (t.registers, (t.cache, (tt, (tt, (tt, tt))))))
 
 -- ---- `board_conversation::exchanges::converse` and `finish`, of the board program's loop
@@ -115,8 +115,8 @@ pub record ExchangeCall : Type 0 where
 
 abbrev pub Converse : LentBoard → ExchangeCall → Type 0
 Converse s x =
-    converse-contract.Asked lifetimes arguments
-    → converse-contract.Learnt lifetimes arguments x.answer (at_exit converse.ended lifetimes arguments left)
+    converse_contract.Asked lifetimes arguments
+    → converse_contract.Learnt lifetimes arguments x.answer (at_exit converse.ended lifetimes arguments left)
   where
     lifetimes : Lfts 6
     lifetimes = x.places.lifetimes
@@ -137,8 +137,8 @@ pub record LastCall : Type 0 where
 
 abbrev pub Finish : LentBoard → LastCall → Type 0
 Finish s x =
-    finish-contract.Asked lifetimes arguments
-    → finish-contract.Learnt lifetimes arguments x.place (at_exit finish.ended lifetimes arguments left)
+    finish_contract.Asked lifetimes arguments
+    → finish_contract.Learnt lifetimes arguments x.place (at_exit finish.ended lifetimes arguments left)
   where
     lifetimes : Lfts 6
     lifetimes = x.places.lifetimes

@@ -9,8 +9,8 @@ use denote.Triple.Clauses.{Lasts, at_exit}
 use Rattle.parcels_listing.specs.declared.ListState.{ListState}
 use Rattle.parcels_listing.specs.Listing.{parcel_count, listed_from, line_size, parcel_lines, listing}
 use Rattle.parcels_listing.specs.OneParcelList.{IsList}
-use Rattle.parcels_listing.specs.contracts.put_lines as put-lines
-use Rattle.parcels_listing.proofs.put_lines.Reads as put-lines-contract
+use Rattle.parcels_listing.specs.contracts.put_lines as put_lines
+use Rattle.parcels_listing.proofs.put_lines.Reads as put_lines_contract
 
 -- a call: the lent buffer, with its lifetime, pointer and ghost name, of which the contract says nothing; the answer; what the
 -- buffer then holds
@@ -23,13 +23,13 @@ pub record PortionCall : Type 0 where
 -- `parcels_listing::put_lines` answered so from the parcel p on
 abbrev pub PutLines : ℕ → PortionCall → Type 0
 PutLines p x =
-    put-lines-contract.Asked x.lifetimes arguments
-    → put-lines-contract.Learnt x.lifetimes arguments x.answer (at_exit put-lines.ended x.lifetimes arguments left)
+    put_lines_contract.Asked x.lifetimes arguments
+    → put_lines_contract.Learnt x.lifetimes arguments x.answer (at_exit put_lines.ended x.lifetimes arguments left)
   where
-    arguments : Args put-lines.signature x.lifetimes
+    arguments : Args put_lines.signature x.lifetimes
     arguments = (p, (x.lent, tt))
 
-    left : Lasts put-lines.ended x.lifetimes arguments
+    left : Lasts put_lines.ended x.lifetimes arguments
     left = (tt, (x.left, tt))
 
 -- calls one after the other, the first from the parcel p on

@@ -12,9 +12,9 @@ use Rattle.records_conversion.specs.declared.ConversionState.{ConversionState}
 use Rattle.records_conversion.specs.Conversion.{conversion_program}
 use Rattle.records_conversion.specs.Loop.{most_kept, room_needed}
 use Rattle.records_conversion.specs.contracts.exchanges.convert as convert
-use Rattle.records_conversion.proofs.exchanges.convert.Reads as convert-contract
+use Rattle.records_conversion.proofs.exchanges.convert.Reads as convert_contract
 use Rattle.records_conversion.specs.contracts.exchanges.finish as finish
-use Rattle.records_conversion.proofs.exchanges.finish.Reads as finish-contract
+use Rattle.records_conversion.proofs.exchanges.finish.Reads as finish_contract
 
 -- ---- the calls
 
@@ -33,8 +33,8 @@ pub record ConvertCall : Type 0 where
 -- `records_conversion::exchanges::convert` answered so
 abbrev pub Converts : Way → ConvertCall → Type 0
 Converts w x =
-    convert-contract.Asked x.lifetimes arguments
-    → convert-contract.Learnt x.lifetimes arguments x.answer (at_exit convert.ended x.lifetimes arguments left)
+    convert_contract.Asked x.lifetimes arguments
+    → convert_contract.Learnt x.lifetimes arguments x.answer (at_exit convert.ended x.lifetimes arguments left)
   where
     arguments : Args convert.signature x.lifetimes
     arguments = (x.state, (w, (x.end, (x.block, (x.buffer, tt)))))
@@ -54,8 +54,8 @@ pub record FinishCall : Type 0 where
 -- `records_conversion::exchanges::finish` answered so
 abbrev pub Finishes : Way → FinishCall → Type 0
 Finishes w x =
-    finish-contract.Asked x.lifetimes arguments
-    → finish-contract.Learnt x.lifetimes arguments x.place (at_exit finish.ended x.lifetimes arguments left)
+    finish_contract.Asked x.lifetimes arguments
+    → finish_contract.Learnt x.lifetimes arguments x.place (at_exit finish.ended x.lifetimes arguments left)
   where
     arguments : Args finish.signature x.lifetimes
     arguments = (x.state, (w, (x.block, (x.buffer, tt))))
