@@ -16,7 +16,7 @@ pub enum Input {
     Failed,
 }
 
-// Whether the call that failed is made again; one that would have to wait, after a millisecond or a signal.
+// Whether the call that failed is made again; one that would have to wait, after a millisecond.
 fn again(rt: &HostRuntime, error: &Error) -> bool {
     match error.kind() {
         ErrorKind::WouldBlock => {
