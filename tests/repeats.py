@@ -150,10 +150,6 @@ def uncited(files):
             said.update(tokens(quoted))
     for path in [*ROOT.glob('tests/*.py'), *CRATES.glob('*/must-fail/*.edit')]:
         said.update(tokens(path.read_text(encoding='utf-8')))
-    for f in (f for f in files if f.path.suffix == '.rt'):      # laws that a function names for its goals
-        for _, line in f.code:
-            if line.lstrip().startswith('#[tactic('):
-                said.update(tokens(line))
     cited = defaultdict(set)
     for f in files:
         for module, names in f.cited().items():

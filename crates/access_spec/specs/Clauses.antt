@@ -13,12 +13,13 @@ use Rattle.access_spec.specs.Journal.{Journal, Journaled, journaled, logging}
 abbrev pub Lent : Type 0 → Type 0
 Lent X = Both (MutBor X) (MutBor X)
 
--- the same by the name of one that is only read
-abbrev pub seen : {X : Type 0} → Bor X → MutBor X
-seen b = record { ref_ptr = b.ref_ptr; ghost_name = 0; now = b.now }
+-- a shared reference in the form of a mutable one; no contract says anything of the ghost name, which a shared one lacks
+abbrev pub as_mutable : {X : Type 0} → Bor X → MutBor X
+as_mutable b = record { ref_ptr = b.ref_ptr; ghost_name = 0; now = b.now }
 
+-- what a contract knows by the name of a parameter that is only read
 abbrev pub only_read : {X : Type 0} → Both (Bor X) (Bor X) → Lent X
-only_read b = record { entry = seen b.entry; exit = seen b.exit }
+only_read b = record { entry = as_mutable b.entry; exit = as_mutable b.exit }
 
 -- it is left as it was
 abbrev pub unchanged : {X : Type 0} → Lent X → Type 0

@@ -30,10 +30,7 @@ module _ (b : ℕ) where
       let u = upper 65 70 b e in
       rw (d, e) (omega (arith, l, u), omega (arith, l, u)))
 
-  -- as the code answers
-  pub digit_told : (x : ℕ) → is_digit b ≡ true → x ≡ b % 16 + b / 64 * 9 → (x ≡ digit_of b) × (x < 16)
-  digit_told x h e = let d = digit_number h in (e ∙ d.0, rw e d.1)
-
+  -- of any other byte, as the code answers
   pub no_digit : (t : Bool) → t ≡ is_digit b → t ≡ false → (0 ≡ digit_of b) × (0 < 16)
   unfolding digit_of
   no_digit t e h =

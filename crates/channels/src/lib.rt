@@ -1,9 +1,9 @@
 #![tactic(auto)]
 // Standard input and output. A call that a signal interrupts, or that would have to wait, is made again; any other that
 // fails writes one line to standard error. No contract can say what is read or written.
-mod words;
+mod failures;
 
-use crate::words::tell;
+use crate::failures::report;
 use std::io::{Error, ErrorKind, Read, Write};
 use std::thread::sleep;
 use std::time::Duration;
@@ -16,11 +16,18 @@ pub enum Input {
     Failed,
 }
 
-// Whether the call that failed is made again; one that would have to wait, after a millisecond.
+const STANDARD_INPUT: &[u8] = b"standard input";
+
+const STANDARD_OUTPUT: &[u8] = b"standard output";
+
+// How long a call that would have to wait is put off.
+const PAUSE_MILLISECONDS: u64 = 1;
+
+// Whether the call that failed is made again.
 fn again(rt: &HostRuntime, error: &Error) -> bool {
     match error.kind() {
         ErrorKind::WouldBlock => {
-            sleep(rt, Duration::from_millis(1));
+            sleep(rt, Duration::from_millis(PAUSE_MILLISECONDS));
             true
         }
         ErrorKind::Interrupted => true,
@@ -36,15 +43,11 @@ pub fn receive(rt: &HostRuntime, block: &mut [u8], end: usize) -> Input {
             return Input::Failed;
         }
         match rt.stdin().read(&mut block[end..]) {
-            Ok(got) => {
-                if got == 0 {
-                    return Input::Ended;
-                }
-                return Input::Filled(end + got);
-            }
+            Ok(0) => return Input::Ended,
+            Ok(got) => return Input::Filled(end + got),
             Err(error) => {
                 if !again(rt, &error) {
-                    tell(rt, b"standard input", &error);
+                    report(rt, STANDARD_INPUT, &error);
                     return Input::Failed;
                 }
             }
@@ -65,13 +68,13 @@ pub fn send(rt: &HostRuntime, out: &[u8], place: usize) -> bool {
         }
         match rt.stdout().write(&out[done..place]) {
             Ok(0) => {
-                tell(rt, b"standard output", &Error::from(ErrorKind::WriteZero));
+                report(rt, STANDARD_OUTPUT, &Error::from(ErrorKind::WriteZero));
                 return false;
             }
             Ok(put) => done = done + put,
             Err(error) => {
                 if !again(rt, &error) {
-                    tell(rt, b"standard output", &error);
+                    report(rt, STANDARD_OUTPUT, &error);
                     return false;
                 }
             }

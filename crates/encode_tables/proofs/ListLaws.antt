@@ -5,28 +5,11 @@ use mathlib.Core.Bool.{Bool, true, false}
 use Prim.Native.Nat.{ℕ, ◌/◌, ◌%◌, ◌^◌}
 use native.Mathlib.Nat.{div-one}
 use lib.Dec.{leb}
-use Rattle.isa.specs.declared.ShortRow.{ShortRow}
-use Rattle.isa.specs.declared.ShortListed.{ShortListed}
-use Rattle.isa.specs.declared.DyadicRow.{DyadicRow}
-use Rattle.isa.specs.declared.DyadicListed.{DyadicListed}
-use Rattle.isa.specs.declared.MonadicRow.{MonadicRow}
-use Rattle.isa.specs.declared.MonadicListed.{MonadicListed}
 use Rattle.isa.specs.declared.FieldMode.{FieldMode}
 use Rattle.isa.specs.declared.Mode.{Mode}
 use Rattle.isa.specs.declared.Operand.{Operand}
 use Rattle.isa.specs.declared.Operand.TheVariants.{General, Register}
-use Rattle.isa.specs.Encodings.{short_listed, dyadic_listed, monadic_listed}
 use Rattle.isa.specs.Encode.{raw_field, mode_code, has_mode}
-
--- list_short, list_dyadic, list_monadic
-pub short_line : (r q : ShortRow) (l : ShortListed) → r ≡ q → l ≡ short_listed q → l ≡ short_listed r
-short_line r q l e f = rw e f
-
-pub dyadic_line_law : (r q : DyadicRow) (l : DyadicListed) → r ≡ q → l ≡ dyadic_listed q → l ≡ dyadic_listed r
-dyadic_line_law r q l e f = rw e f
-
-pub monadic_line_law : (r q : MonadicRow) (l : MonadicListed) → r ≡ q → l ≡ monadic_listed q → l ≡ monadic_listed r
-monadic_line_law r q l e f = rw e f
 
 -- raw_field
 pub raw_arm : (m n : FieldMode) (v r : ℕ) → m ≡ n → r ≡ raw_field n v → r ≡ raw_field m v

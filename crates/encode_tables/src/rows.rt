@@ -45,7 +45,6 @@ fn niladic_line(j: u32) -> ShortListed
 }
 
 // Length 2.
-#[tactic(auto, using(crate::proofs::ListLaws::short_line))]
 pub fn list_short(row: ShortRow) -> ShortListed
     ensures { result ≡ short_listed row }
 {
@@ -103,7 +102,6 @@ fn dyadic_line(k: u32, o: Operands) -> DyadicListed
 }
 
 // Lengths 6 and 10, two operands.
-#[tactic(auto, using(crate::proofs::ListLaws::dyadic_line_law))]
 pub fn list_dyadic(row: DyadicRow) -> DyadicListed
     ensures { result ≡ dyadic_listed row }
 {
@@ -157,7 +155,6 @@ fn monadic_line(j: u32, o: Single) -> MonadicListed
 }
 
 // Length 6, one operand.
-#[tactic(auto, using(crate::proofs::ListLaws::monadic_line_law))]
 pub fn list_monadic(row: MonadicRow) -> MonadicListed
     ensures { result ≡ monadic_listed row }
 {

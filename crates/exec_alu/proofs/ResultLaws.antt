@@ -16,7 +16,7 @@ use Rattle.word.specs.Tags.{tagged_add_of, tagged_sub_of}
 use Rattle.word.specs.Fields.{bit_of}
 use Rattle.machine.specs.Bits.{carry_bit, overflow_bit, flag_bit}
 use Rattle.exec_spec.specs.Alu.{stays, gets, bit_digit, flagged, with_bit_as, operate, related}
-use Rattle.exec_alu.specs.Results.{flag_from, outcome, unpacked, laid_over}
+use Rattle.exec_alu.specs.Results.{flag_from, result_of, unpacked, laid_over}
 use Rattle.exec_spec.specs.Dyadic.{tagged_with, tagged_over}
 
 low_code : (c o : ℕ) → c < 4 → (c + o * 4) % 4 ≡ c
@@ -25,12 +25,12 @@ low_code c o h = omega arith
 high_code : (c o : ℕ) → c < 4 → o < 4 → (c + o * 4) / 4 % 4 ≡ o
 high_code c o h g = omega arith
 
-pub packed_apart : (v c o : ℕ) → v < 2 ^ 32 → c < 4 → o < 4 → unpacked (v + (c + o * 4) * 0x1_0000_0000) ≡ outcome v (flag_from c) (flag_from o)
+pub packed_apart : (v c o : ℕ) → v < 2 ^ 32 → c < 4 → o < 4 → unpacked (v + (c + o * 4) * 0x1_0000_0000) ≡ result_of v (flag_from c) (flag_from o)
 unfolding unpacked
 packed_apart v c o h g k =
     let a : (v + (c + o * 4) * 0x1_0000_0000) % 2 ^ 32 ≡ v = omega arith in
     let q : (v + (c + o * 4) * 0x1_0000_0000) / 2 ^ 32 ≡ c + o * 4 = omega arith in
-    (λ i. outcome (a i) (flag_from ((ap (λ (n : ℕ). n % 4) q ∙ low_code c o g) i)) (flag_from ((ap (λ (n : ℕ). n / 4 % 4) q ∙ high_code c o g k) i)))
+    (λ i. result_of (a i) (flag_from ((ap (λ (n : ℕ). n % 4) q ∙ low_code c o g) i)) (flag_from ((ap (λ (n : ℕ). n / 4 % 4) q ∙ high_code c o g k) i)))
 
 pub digit_lt : (b : Bool) (n : ℕ) → n ≡ bit_digit b → n < 4
 digit_lt true n e = omega arith
@@ -40,12 +40,12 @@ digit_gets : (b : Bool) → flag_from (bit_digit b) ≡ gets b
 digit_gets true = refl
 digit_gets false = refl
 
-pub both_set : (v r x y : ℕ) (c o : Bool) → x ≡ bit_digit c → y ≡ bit_digit o → unpacked r ≡ outcome v (flag_from x) (flag_from y)
-    → unpacked r ≡ outcome v (gets c) (gets o)
+pub both_set : (v r x y : ℕ) (c o : Bool) → x ≡ bit_digit c → y ≡ bit_digit o → unpacked r ≡ result_of v (flag_from x) (flag_from y)
+    → unpacked r ≡ result_of v (gets c) (gets o)
 both_set v r x y c o e f g = g ∙ rw (e, f, digit_gets c, digit_gets o)
 
-pub overflow_set : (v r y : ℕ) (o : Bool) → y ≡ bit_digit o → unpacked r ≡ outcome v (flag_from 2) (flag_from y)
-    → unpacked r ≡ outcome v stays (gets o)
+pub overflow_set : (v r y : ℕ) (o : Bool) → y ≡ bit_digit o → unpacked r ≡ result_of v (flag_from 2) (flag_from y)
+    → unpacked r ≡ result_of v stays (gets o)
 overflow_set v r y o f g = g ∙ rw (f, digit_gets o)
 
 pub value_unpacked : (w : ℕ) → bit_and w 0xFFFF_FFFF ≡ (unpacked w).value
@@ -65,24 +65,24 @@ unfolding unpacked
 both_laid w x y r e f = f ∙ rw (e, and_mask (w / 0x1_0000_0000) 2, and_mask (w / 0x1_0000_0000 / 4) 2) refl
 
 -- a sum, a difference or a product
-pub summed : (t u : Sum) (r : ℕ) → t ≡ u → unpacked r ≡ outcome t.value (gets t.carry) (gets t.overflow)
-    → unpacked r ≡ outcome u.value (gets u.carry) (gets u.overflow)
+pub summed : (t u : Sum) (r : ℕ) → t ≡ u → unpacked r ≡ result_of t.value (gets t.carry) (gets t.overflow)
+    → unpacked r ≡ result_of u.value (gets u.carry) (gets u.overflow)
 summed t u r e f = f ∙ rw e refl
 
 -- a quotient or its remainder
-pub divided : (t u : Quotient) (r : ℕ) → t ≡ u → unpacked r ≡ outcome t.value stays (gets t.overflow)
-    → unpacked r ≡ outcome u.value stays (gets u.overflow)
+pub divided : (t u : Quotient) (r : ℕ) → t ≡ u → unpacked r ≡ result_of t.value stays (gets t.overflow)
+    → unpacked r ≡ result_of u.value stays (gets u.overflow)
 divided t u r e f = f ∙ rw e refl
 
-pub left_over : (t u : Quotient) (r : ℕ) → t ≡ u → unpacked r ≡ outcome t.rest stays (gets false)
-    → unpacked r ≡ outcome u.rest stays (gets false)
+pub left_over : (t u : Quotient) (r : ℕ) → t ≡ u → unpacked r ≡ result_of t.rest stays (gets false)
+    → unpacked r ≡ result_of u.rest stays (gets false)
 left_over t u r e f = f ∙ rw e refl
 
 -- a value alone
-pub carry_free : (v x r : ℕ) → v ≡ x → unpacked r ≡ outcome v (gets false) stays → unpacked r ≡ outcome x (gets false) stays
+pub carry_free : (v x r : ℕ) → v ≡ x → unpacked r ≡ result_of v (gets false) stays → unpacked r ≡ result_of x (gets false) stays
 carry_free v x r e f = f ∙ rw e refl
 
-pub value_alone : (v x r : ℕ) → v ≡ x → unpacked r ≡ outcome v stays stays → unpacked r ≡ outcome x stays stays
+pub value_alone : (v x r : ℕ) → v ≡ x → unpacked r ≡ result_of v stays stays → unpacked r ≡ result_of x stays stays
 value_alone v x r e f = f ∙ rw e refl
 
 -- an arm of the operation

@@ -7,11 +7,11 @@ use Rattle.exec_spec.specs.Alu.{Flag, stays, gets, Result, flags_over}
 abbrev pub flag_from : ℕ → Flag
 flag_from k = cond (eqb k 2) stays (gets (eqb k 1))
 
-abbrev pub outcome : ℕ → Flag → Flag → Result
-outcome v c o = record { value = v; carry = c; overflow = o }
+abbrev pub result_of : ℕ → Flag → Flag → Result
+result_of v c o = record { value = v; carry = c; overflow = o }
 
 unfoldable pub unpacked : ℕ → Result
-unpacked w = outcome (w % 2 ^ 32) (flag_from (w / 2 ^ 32 % 4)) (flag_from (w / 2 ^ 32 / 4 % 4))
+unpacked w = result_of (w % 2 ^ 32) (flag_from (w / 2 ^ 32 % 4)) (flag_from (w / 2 ^ 32 / 4 % 4))
 
 -- the flags laid over a PSW
 abbrev pub laid_over : Result → ℕ → ℕ

@@ -2,7 +2,7 @@
 ghost use Rattle.std.specs.Prelude.{◌≡◌, false, ◌%◌, ◌<◌};
 ghost use Rattle.exec_spec.specs.declared.Operation.TheVariants.{Add, Sub, Mul, Div, Rem, Udiv, Urem, And, Or, Xor, Shl, Shr, Ushr};
 ghost use Rattle.exec_spec.specs.Alu.{stays, gets, flagged, operate as operate_of};
-ghost use Rattle.exec_alu.specs.Results.{flag_from, outcome, unpacked, laid_over};
+ghost use Rattle.exec_alu.specs.Results.{flag_from, result_of, unpacked, laid_over};
 
 use crate::psw::{digit, with_bit_as};
 use word::products::{div, mul, udiv, urem};
@@ -15,35 +15,35 @@ const FLAGS: u64 = 0x1_0000_0000;
 // A value with the codes of carry and overflow.
 fn packed(value: u32, carry: u32, overflow: u32) -> u64
     requires { (carry < 4) × (overflow < 4) }
-    ensures { unpacked result ≡ outcome value (flag_from carry) (flag_from overflow) }
+    ensures { unpacked result ≡ result_of value (flag_from carry) (flag_from overflow) }
 {
     value as u64 + (carry + overflow * 4) as u64 * FLAGS
 }
 
 // A value that sets both flags.
 fn both_flags(value: u32, carry: bool, overflow: bool) -> u64
-    ensures { unpacked result ≡ outcome value (gets carry) (gets overflow) }
+    ensures { unpacked result ≡ result_of value (gets carry) (gets overflow) }
 {
     packed(value, digit(carry), digit(overflow))
 }
 
 // A value that sets the overflow.
 fn overflow_only(value: u32, overflow: bool) -> u64
-    ensures { unpacked result ≡ outcome value stays (gets overflow) }
+    ensures { unpacked result ≡ result_of value stays (gets overflow) }
 {
     packed(value, 2, digit(overflow))
 }
 
 // A value that clears the carry.
 fn carry_cleared(value: u32) -> u64
-    ensures { unpacked result ≡ outcome value (gets false) stays }
+    ensures { unpacked result ≡ result_of value (gets false) stays }
 {
     packed(value, 0, 2)
 }
 
 // A value that leaves the flags.
 fn no_flags(value: u32) -> u64
-    ensures { unpacked result ≡ outcome value stays stays }
+    ensures { unpacked result ≡ result_of value stays stays }
 {
     packed(value, 2, 2)
 }

@@ -1,5 +1,6 @@
 #![tactic(auto)]
-// The C interface: calls over memory and blocks of words that the caller lends (include/hobbit.h says what each does).
+// What the C interface's symbols call (the crate hobbit_c), over memory and blocks of words that the caller lends;
+// include/hobbit.h says what each does.
 // Here: the machine; in `bytes` its memory; in `texts` decoding and encoding.
 pub mod bytes;
 pub mod texts;

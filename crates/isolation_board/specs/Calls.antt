@@ -33,8 +33,8 @@ abbrev pub lent_at : {X : Type 0} → Reference → X → MutBor X
 lent_at p x = record { ref_ptr = p.ptr; ghost_name = p.name; now = x }
 
 -- of a parameter that is only read
-abbrev pub read_at : {X : Type 0} → Reference → X → Bor X
-read_at p x = record { ref_ptr = p.ptr; now = x }
+abbrev pub shared_at : {X : Type 0} → Reference → X → Bor X
+shared_at p x = record { ref_ptr = p.ptr; now = x }
 
 -- ---- `run::running::run_lent`
 
@@ -144,7 +144,7 @@ Finish s x =
     lifetimes = x.places.lifetimes
 
     arguments : Args finish.signature lifetimes
-    arguments = (x.stream, (read_at x.places.block x.block, lent_to x.places s))
+    arguments = (x.stream, (shared_at x.places.block x.block, lent_to x.places s))
 
     left : Lasts finish.ended lifetimes arguments
     left = (tt, (tt, left_by x.left))

@@ -157,8 +157,8 @@ conversion_serves ls ref w o input h g =
     at : List ℕ → MutBor (List ℕ)
     at t = record { ref_ptr = ref.ref_ptr; ghost_name = ref.ghost_name; now = t }
 
-    shown : List ℕ → Bor (List ℕ)
-    shown t = record { ref_ptr = ref.ref_ptr; now = t }
+    shared_at : List ℕ → Bor (List ℕ)
+    shared_at t = record { ref_ptr = ref.ref_ptr; now = t }
 
     after : ExchangeDone
     after = exchange_from w input (progress (output o 0) 0 false)
@@ -205,7 +205,7 @@ conversion_serves ls ref w o input h g =
         record {
           lifetimes = ls;
           state = state;
-          block = shown after.kept;
+          block = shared_at after.kept;
           buffer = at after.progress.output.bytes;
           place = over.output.place;
           buffer_left = over.output.bytes;

@@ -1,5 +1,5 @@
 #![tactic(auto)]
-// Walks over tables in 64 KB of memory, as lines of hexadecimal numbers say (crates/walks/stdin, written by tests/walks.py):
+// Walks over tables in 64 KB of memory, as lines of hexadecimal numbers say (crates/test_walks/stdin, written by tests/walks.py):
 //   0 ADDRESS WORD                            stores a word
 //   1 KIND LEVEL VA STB TRANSLATED BYTES      walks and records, with so many bytes of memory: prints what the access is
 //                                             (0 fetch, 1 read, 2 write), its level (1 user), the virtual address; how the

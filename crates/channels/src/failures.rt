@@ -1,26 +1,27 @@
-// A line on standard error: what failed, and the system's words for why, without their number.
+// A line on standard error: what failed, and the system's message, without the number that std puts behind it.
 ghost use Rattle.std.specs.Prelude.{◌≤◌, length};
 
 use std::fmt;
 use std::fmt::Write;
 use std::io::{Error, Print};
 
-const ROOM: usize = 256;
+// No message of the system's is as long.
+const MESSAGE_ROOM: usize = 256;
 
-// Where the words end and the number begins.
-const NUMBER: &[u8] = b" (os error ";
+// What stands between a message and its number.
+const NUMBER_BEGINS: &[u8] = b" (os error ";
 
 #[derive(Drop)]
-struct Words {
-    bytes: [u8; ROOM],
+struct Message {
+    bytes: [u8; MESSAGE_ROOM],
     length: usize,
 }
 
-impl fmt::Write for Words {
+impl fmt::Write for Message {
     fn write_str(&mut self, text: &str) -> fmt::Result {
         for b in text.as_bytes() {
             let at = self.length;
-            if at < ROOM {
+            if at < MESSAGE_ROOM {
                 self.bytes[at] = *b;
                 self.length = at + 1;
             }
@@ -34,25 +35,21 @@ fn before_number(text: &[u8]) -> usize
     ensures { result ≤ length text.now }
 {
     for i in 0..text.len() {
-        if text[i..].starts_with(NUMBER) {
+        if text[i..].starts_with(NUMBER_BEGINS) {
             return i;
         }
     }
     text.len()
 }
 
-pub(crate) fn tell(rt: &HostRuntime, what: &[u8], error: &Error) {
-    let mut words = Words {
-        bytes: [0u8; ROOM],
+// A failure of standard error itself is passed over: there is nowhere left to report it.
+pub(crate) fn report(rt: &HostRuntime, what: &[u8], error: &Error) {
+    let mut message = Message {
+        bytes: [0u8; MESSAGE_ROOM],
         length: 0,
     };
-    let _ = write!(words, "{error}");
-    let all = &words.bytes[..];
-    let text = if words.length <= ROOM {
-        &all[..words.length]
-    } else {
-        all
-    };
+    let _ = write!(message, "{error}");
+    let text = &message.bytes[..message.length.min(MESSAGE_ROOM)];
     let _ = rt.stderr().write_all(what);
     let _ = rt.stderr().write_all(b": ");
     let _ = rt.stderr().write_all(&text[..before_number(text)]);
