@@ -104,18 +104,15 @@ pub(crate) fn byte_at(line: &[u8], i: usize) -> u8
     number_of(line[i]) * 16 + number_of(line[i + 1])
 }
 
-fn wide(b: u8) -> u32
-    ensures { result ≡ b }
-{
-    b as u32
-}
-
 // The number of the eight digits from i on.
 pub(crate) fn word_at(line: &[u8], i: usize) -> u32
     requires { (i + 8 ≤ length line.now) × (all_digits line.now ≡ true) }
     ensures { result ≡ number_at 8 line.now i }
 {
-    ((wide(byte_at(line, i)) * 256 + wide(byte_at(line, i + 2))) * 256 + wide(byte_at(line, i + 4)))
-        * 256
-        + wide(byte_at(line, i + 6))
+    u32::from_be_bytes([
+        byte_at(line, i),
+        byte_at(line, i + 2),
+        byte_at(line, i + 4),
+        byte_at(line, i + 6),
+    ])
 }

@@ -18,11 +18,6 @@ use Rattle.hex_digits.specs.Digits.{is_decimal, is_letter, is_digit, all_digits,
 use Rattle.hex_digits.specs.Output.{Output, output, written, printed}
 use Rattle.hex_digits.proofs.OutputLaws.{set_before, fits, full, room_printed}
 
--- the last arm of a table of sixteen
-pub digit_last : (x : ℕ) → 15 ≤ x → x < 16 → 70 ≡ digit_byte x
-unfolding digit_byte
-digit_last x h g = let e : 15 ≡ x = omega arith in ap digit_byte e
-
 -- ---- digits put into a buffer, the last one first
 
 module _ (o : List ℕ) (p n v : ℕ) where
@@ -75,6 +70,21 @@ byte_test b = not (is_digit b) || ltb (digit_of b) 16 && eqb (digit_byte (digit_
 bytes_pass : every byte_test 7 0 ≡ true
 unfolding byte_test digit_of digit_byte
 bytes_pass = refl
+
+-- the table of the code
+abbrev pub table : List ℕ
+table = 48 ∷ 49 ∷ 50 ∷ 51 ∷ 52 ∷ 53 ∷ 54 ∷ 55 ∷ 56 ∷ 57 ∷ 65 ∷ 66 ∷ 67 ∷ 68 ∷ 69 ∷ 70 ∷ []
+
+table_test : ℕ → Bool
+table_test d = eqb (get_or table d 0) (digit_byte d)
+
+table_passes : every table_test 4 0 ≡ true
+unfolding table_test digit_byte
+table_passes = refl
+
+pub in_table : (x : ℕ) → get_or table (x % 16) 0 ≡ digit_byte (x % 16)
+unfolding table_test
+in_table x = eqb-true _ _ (holds table_test 4 0 (x % 16) zero-le (mod-lt x (omega arith)) table_passes)
 
 module _ (d : ℕ) (h : d < 16) where
   number_passes : (is_digit (digit_byte d) && eqb (digit_of (digit_byte d)) d) ≡ true
