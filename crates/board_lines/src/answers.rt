@@ -48,6 +48,7 @@ impl Printout<'_> {
     }
 
     // The 82 line of a line that was refused; one that was done prints nothing.
+    #[tactic(auto, using(crate::proofs::TotalsLaws::tallied_none))]
     pub fn put_unless_done(&mut self, line: u32, done: Result<(), Refusal>)
         ensures lent { self.new.output.buffer.ghost_name ≡ self.old.output.buffer.ghost_name }
         ensures text { printout_of self.new ≡ tallied (unless_done line (refusal_of done)) (printout_of self.old) }

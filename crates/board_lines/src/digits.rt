@@ -34,15 +34,7 @@ fn sixteen_digits(line: &[u8], i: usize) -> bool
 fn few_digits(line: &[u8]) -> bool
     ensures { result ≡ all_digits line.now }
 {
-    let mut i = 0;
-    while i < line.len() {
-        if is_digit(line[i]) {
-            i = i + 1;
-        } else {
-            return false;
-        }
-    }
-    true
+    line.iter().all(|b| is_digit(*b))
 }
 
 // By eights or sixteens, if there are as many. The last ones end with the line, over some that were read already.
@@ -75,6 +67,15 @@ pub fn number_of(b: u8) -> u8
     b % 16 + b / 64 * 9
 }
 
+// The number of two digits, and some number of any other bytes.
+pub fn byte_of_digits(high: u8, low: u8) -> u8
+    ensures { is_digit high ≡ true → is_digit low ≡ true → result ≡ digit_of high * 16 + digit_of low }
+{
+    number_of(high)
+        .wrapping_mul(16)
+        .wrapping_add(number_of(low))
+}
+
 fn value(b: u8) -> u8
     ensures { (result ≡ digit_of b) × (result < 16) }
 {
@@ -101,7 +102,7 @@ pub(crate) fn byte_at(line: &[u8], i: usize) -> u8
     requires { (i + 2 ≤ length line.now) × (all_digits line.now ≡ true) }
     ensures { result ≡ number_at 2 line.now i }
 {
-    number_of(line[i]) * 16 + number_of(line[i + 1])
+    byte_of_digits(line[i], line[i + 1])
 }
 
 // The number of the eight digits from i on.

@@ -36,11 +36,7 @@ fn resume(rt: &HostRuntime, what: &[u8], error: &Error) -> Result<(), Failed> {
 }
 
 // Reads into a block behind its first bytes, as many as `end`: up to where it is filled then, or None at the end of input.
-pub fn receive(
-    rt: &HostRuntime,
-    block: &mut [u8],
-    end: usize,
-) -> Result<Option<usize>, Failed> {
+pub fn receive(rt: &HostRuntime, block: &mut [u8], end: usize) -> Result<Option<usize>, Failed> {
     for _ in 0..u64::MAX {
         // A full block, which no program hands on: what is kept is shorter.
         if block.len() <= end {
