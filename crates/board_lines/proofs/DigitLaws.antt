@@ -51,10 +51,6 @@ number_next n s i =
     let e : i + suc n ≡ i + n + 1 = omega arith in
     rw (number_2 s (i + n), e) (omega arith)
 
-pub number_8 : (s : List ℕ) (i : ℕ)
-    → number_at 8 s i ≡ ((number_at 2 s i * 256 + number_at 2 s (i + 2)) * 256 + number_at 2 s (i + 4)) * 256 + number_at 2 s (i + 6)
-number_8 s i = rw (number_next 6 s i, number_next 4 s i, number_next 2 s i) refl
-
 -- ---- a line of which each byte is tried
 
 all_of_each : (s : List ℕ) → ((k : ℕ) → k < length s → is_digit (get_or s k 0) ≡ true) → all_digits s ≡ true
@@ -121,9 +117,6 @@ module _ (s : List ℕ) where
         (all_append (take k (drop i s)) (drop k (drop i s)) ∙ ap (λ (b : Bool). b && all_digits (drop k (drop i s))) (sym e ∙ f))
         ∙ and-false (all_digits (take i s))
         )
-
-  pub read_through : (i : ℕ) → Read s i → length s ≤ i → true ≡ all_digits s
-  read_through i r h = sym r.good ∙ ap all_digits (take_all i s h)
 
   -- what was read covers all but the last k
   pub read_all : (k i : ℕ) (x : Bool) → Read s i → k ≤ length s → length s ≤ i + k

@@ -16,7 +16,7 @@ use Rattle.word.proofs.FieldLaws.{digits_pow}
 use Rattle.word.proofs.EveryLaws.{every, holds}
 use Rattle.hex_digits.specs.Digits.{is_decimal, is_letter, is_digit, all_digits, digit_of, number_at, digit_byte, digits}
 use Rattle.hex_digits.specs.Output.{Output, output, written, printed}
-use Rattle.hex_digits.proofs.OutputLaws.{set_before, fits, full, room_printed}
+use Rattle.hex_digits.proofs.OutputLaws.{set_before, room_printed}
 
 -- ---- digits put into a buffer, the last one first
 
@@ -135,14 +135,6 @@ length_digits (suc n) x = ap suc (length_digits n x)
 pub all_digits_law : (n x : ℕ) → all_digits (digits n x) ≡ true
 all_digits_law zero x = refl
 all_digits_law (suc n) x = rw (digit_is (x / 16 ^ n % 16) (mod-lt (x / 16 ^ n) (omega arith)), all_digits_law n x) refl
-
--- printed whole, or left out
-module _ (n v p : ℕ) (o : List ℕ) where
-  pub digits_in : (x : List ℕ) → p + n ≤ length o → x ≡ written o p (digits n v) → output x (p + n) ≡ printed (digits n v) (output o p)
-  digits_in x h e = fits (digits n v) o p x n (sym (length_digits n v)) h e
-
-  pub digits_out : length o < p + n → output o p ≡ printed (digits n v) (output o p)
-  digits_out h = full (digits n v) o p n (sym (length_digits n v)) h
 
 -- what digits leave for which there is room
 pub put_in : (o x : List ℕ) (p n v r : ℕ) → p + n ≤ length o → output x r ≡ printed (digits n v) (output o p) → x ≡ written o p (digits n v)

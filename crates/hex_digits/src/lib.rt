@@ -2,7 +2,7 @@
 // Text put into a lent buffer: bytes, and the upper-case hexadecimal digits of numbers.
 ghost use Rattle.std.specs.Prelude.{◌≡◌, ◌+◌, ◌%◌, ◌≤◌, [], ◌∷◌, leb, length};
 ghost use Rattle.hex_digits.specs.Digits.{digit_byte, digits};
-ghost use Rattle.hex_digits.specs.Output.{output, written, printed, contents};
+ghost use Rattle.hex_digits.specs.Output.{written, printed, contents};
 
 // A lent buffer, and the place of the next byte.
 #[derive(Drop)]
