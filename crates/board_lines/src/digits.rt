@@ -5,7 +5,7 @@ ghost use Rattle.hex_digits.specs.Digits.{is_digit, all_digits, digit_of, number
 fn is_digit(b: u8) -> bool
     ensures { result ≡ is_digit b }
 {
-    ((48 <= b) & (b <= 57)) | ((65 <= b) & (b <= 70))
+    ((b'0' <= b) & (b <= b'9')) | ((b'A' <= b) & (b <= b'F'))
 }
 
 // Eight bytes without a branch between them: the compiler takes them at once.
@@ -23,6 +23,7 @@ fn eight_digits(line: &[u8], i: usize) -> bool
         & is_digit(line[i + 7])
 }
 
+#[tactic(auto, using(crate::proofs::DigitLaws::next_eight))]
 fn sixteen_digits(line: &[u8], i: usize) -> bool
     requires { i + 16 ≤ length line.now }
     ensures { result ≡ all_digits (take 16 (drop i line.now)) }
@@ -60,6 +61,7 @@ pub fn all_digits(line: &[u8]) -> bool
 }
 
 // The number of a digit, and some number of any other byte. Bit 6 is set in letters alone, whose low bits count from 1.
+#[tactic(auto, using(crate::proofs::DigitLaws::digit_number))]
 pub fn number_of(b: u8) -> u8
     ensures number { result ≡ b % 16 + b / 64 * 9 }
     ensures digit { is_digit b ≡ true → (result ≡ digit_of b) × (result < 16) }
@@ -76,6 +78,7 @@ pub fn byte_of_digits(high: u8, low: u8) -> u8
         .wrapping_add(number_of(low))
 }
 
+#[tactic(auto, using(crate::proofs::DigitLaws::no_digit))]
 fn value(b: u8) -> u8
     ensures { (result ≡ digit_of b) × (result < 16) }
 {

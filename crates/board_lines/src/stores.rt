@@ -13,6 +13,7 @@ fn count(line: &[u8]) -> usize
     if 10 <= n { (n - 10) / 2 } else { 0 }
 }
 
+#[tactic(auto, using(crate::proofs::StoreLaws::storing_none, crate::proofs::StoreLaws::storing_more, crate::proofs::StoreLaws::storing_all))]
 fn store_bytes(line: &[u8], m: &mut [u8], a: usize, n: usize)
     requires { (a + n ≤ length m.old) × (n ≡ byte_count line.now) }
     ensures { m.new ≡ bytes_stored n line.now m.old a }
@@ -23,6 +24,7 @@ fn store_bytes(line: &[u8], m: &mut [u8], a: usize, n: usize)
 }
 
 // All the bytes of a line from an address on, or a refusal and the memory as it was.
+#[tactic(auto, using(crate::proofs::StoreLaws::store_in, crate::proofs::StoreLaws::store_past))]
 pub fn store(line: &[u8], m: &mut [u8], address: u32) -> Result<(), Refusal>
     ensures { store_result (refusal_of result) m.new ≡ frame_store line.now m.old address }
 {

@@ -14,6 +14,7 @@ pub struct Output<'a> {
 const DIGITS: &[u8; 16] = b"0123456789ABCDEF";
 
 // The last digit of a number.
+#[tactic(auto, using(crate::proofs::DigitLaws::in_table))]
 fn last_digit(x: u32) -> u8
     ensures { result ≡ digit_byte (x % 16) }
 {
@@ -28,7 +29,7 @@ fn store_digits(out: &mut [u8], at: usize, count: usize, x: u32)
     let mut left = x;
     for i in (0..count).rev() {
         out[at + i] = last_digit(left);
-        left = left / 16;
+        left /= 16;
     }
 }
 
