@@ -38,7 +38,8 @@ fn few_digits(line: &[u8]) -> bool
     line.iter().all(|b| is_digit(*b))
 }
 
-// By eights or sixteens, if there are as many. The last ones end with the line, over some that were read already.
+// By eights or sixteens, if there are as many: `all` over the bytes takes twelve instructions a byte, this takes one or two.
+// The last ones end with the line, over some that were read already.
 pub fn all_digits(line: &[u8]) -> bool
     ensures { result ≡ all_digits line.now }
 {
