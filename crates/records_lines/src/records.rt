@@ -29,6 +29,7 @@ const MOST_DIGITS: usize = 64;
 const FRAME_REST: usize = 11;
 
 // How many bytes the address has, by the type's byte; None is no type. A type of data has the same as the one that ends it.
+#[tactic(auto, using(crate::proofs::RecordLaws::either_type, crate::proofs::RecordLaws::other_type), unfolding(crate::specs::Records::address_bytes))]
 fn address_bytes(kind: u8) -> Option<usize>
     ensures { (unwrap_or result 0 ≡ address_bytes kind) × IfSome result (λ size. (0 < size) × (size ≤ 4)) }
 {
