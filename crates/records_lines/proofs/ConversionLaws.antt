@@ -21,7 +21,7 @@ use Rattle.records_lines.specs.Conversions.{frames_of, record_converted, store_r
 use Rattle.records_lines.proofs.RecordLaws.{RecordParts, least_count, record_parts, none_refused, no_type}
 
 -- no refusal has the number 0
-is_refusal : (r : Refusal) → number_of r ≡ 0 → ⊥
+pub is_refusal : (r : Refusal) → number_of r ≡ 0 → ⊥
 is_refusal MemorySize e = absurd (omega (arith, e))
 is_refusal Register e = absurd (omega (arith, e))
 is_refusal InterruptLevel e = absurd (omega (arith, e))
