@@ -21,9 +21,6 @@ pub record Converting (w : Way) (t : List ℕ) (p₀ : Progress) (o : Output) (l
   pub done : lines_done w (ended_lines (drop from t)) (progress o last false) ≡ lines_done w (ended_lines t) p₀
   pub place : from + size_of (ended_lines (drop from t)) ≡ size_of (ended_lines t)
 
-pub converting_none : (w : Way) (t : List ℕ) (o : Output) (n to : ℕ) → to ≡ 0 + newline_at (drop 0 t) → Converting w t (progress o n false) o n 0 to
-converting_none w t o n to e = record { upto = omega arith; ends = e; done = refl; place = omega arith }
-
 module _ (w : Way) (t : List ℕ) (p₀ : Progress) (o : Output) (last from to : ℕ) (r : Converting w t p₀ o last from to) where
   -- no line is left
   pub converting_over : length t ≤ to → block_done (progress o last false) from ≡ block_from w t p₀

@@ -1,6 +1,6 @@
--- A line converted on a buffer, and its two ways out.
+-- A line that is refused, converted on a buffer.
 -- Assumes nothing.
-use Rattle.std.proofs.Common.{◌≡◌, ℕ, Option, Some, None, true, false, eqb, List, [], sym, refl, ap, ◌∙◌, eq-eqb, ne_eqb}
+use Rattle.std.proofs.Common.{◌≡◌, ℕ, Option, Some, None, true, false, eqb, List, [], refl, ap, ◌∙◌, ne_eqb}
 use Rattle.refusals.specs.declared.Refusal.{Refusal}
 use Rattle.refusals.specs.Numbers.{number_of}
 use Rattle.word.proofs.CaseLaws.{by_test}
@@ -42,24 +42,17 @@ pub refused_nothing : (w : Way) (s : List ℕ) → Refused (converted_by w s) �
 refused_nothing In s n = record_nothing s n
 refused_nothing Out s n = store_nothing s (frame_of s) n
 
--- ---- as the code answers
+-- ---- as the code answers: the line of the refusal
 
-module _ (w : Way) (s : List ℕ) (o o' : Output) (n : ℕ) where
-  pub line_accepted : line_output 0 o' ≡ output_of (converted_by w s) o → progress o' (next n) false ≡ line_done (converted_by w s) (progress o n false)
-  line_accepted h =
-      rw (eq-eqb (converted_by w s).refusal 0 (sym (ap (λ (x : LineOutput). x.refusal) h)))
-      (ap (λ (x : LineOutput). progress x.output (next n) false) h)
-
-  -- nothing was printed before the line of the refusal
-  pub line_refused : (r : Refusal) → line_output (number_of r) o' ≡ output_of (converted_by w s) o
-      → (p : Output) → p ≡ printed (refused_line (number_of r) (next n)) o' → progress p (next n) true ≡ line_done (converted_by w s) (progress o n false)
-  unfolding lines_text
-  line_refused r h p g =
-      let told : number_of r ≡ (converted_by w s).refusal = ap (λ (x : LineOutput). x.refusal) h in
-      let some : (converted_by w s).refusal ≡ 0 → ⊥ = λ e. is_refusal r (told ∙ e) in
-      let unprinted : o' ≡ o =
-      ap (λ (x : LineOutput). x.output) h
-      ∙ ap (λ (l : List (List ℕ)). printed (lines_text l) o) (refused_nothing w s some)
-      ∙ printed_none o in
-      rw (ne_eqb (converted_by w s).refusal 0 some)
-      (ap (λ (x : Output). progress x (next n) true) (g ∙ (λ j. printed (refused_line (told j) (next n)) (unprinted j))))
+pub line_refused : (w : Way) (s : List ℕ) (o o' : Output) (n : ℕ) (r : Refusal) → line_output (number_of r) o' ≡ output_of (converted_by w s) o
+    → (p : Output) → p ≡ printed (refused_line (number_of r) (next n)) o' → progress p (next n) true ≡ line_done (converted_by w s) (progress o n false)
+unfolding lines_text
+line_refused w s o o' n r h p g =
+    let told : number_of r ≡ (converted_by w s).refusal = ap (λ (x : LineOutput). x.refusal) h in
+    let some : (converted_by w s).refusal ≡ 0 → ⊥ = λ e. is_refusal r (told ∙ e) in
+    let unprinted : o' ≡ o =
+    ap (λ (x : LineOutput). x.output) h
+    ∙ ap (λ (l : List (List ℕ)). printed (lines_text l) o) (refused_nothing w s some)
+    ∙ printed_none o in
+    rw (ne_eqb (converted_by w s).refusal 0 some)
+    (ap (λ (x : Output). progress x (next n) true) (g ∙ (λ j. printed (refused_line (told j) (next n)) (unprinted j))))

@@ -62,9 +62,6 @@ rest s = take (length s - 2) (drop 2 s)
 pub rest_is : (s : List ℕ) → rest s ≡ drop 2 s
 rest_is s = part_to_end s 2
 
-pub length_rest : (s : List ℕ) → length (rest s) ≡ length s - 2
-length_rest s = ap length (rest_is s) ∙ length-drop 2 s
-
 -- ---- records
 
 module _ (s : List ℕ) where
@@ -100,9 +97,6 @@ module _ (s : List ℕ) (p : RecordParts s) where
   unfolding is_record
   parts_record =
       rw (eq-eqb (get_or s 0 0) letter_s p.begins, eq-eqb (length s) (4 + 2 * record_count s) p.long, p.counted, p.digits) refl
-
-  pub rest_digits : all_digits (rest s) ≡ true
-  rest_digits = ap all_digits (rest_is s) ∙ p.digits
 
 -- a count covers address and checksum
 pub least_count : (t n : ℕ) → is_count t n ≡ true → address_bytes t + 1 ≤ n

@@ -23,9 +23,6 @@ pub record Summing (s rest : List ℕ) (sum : ℕ) : Type 0 where
   pub sums : (sum + byte_sum (digit_bytes rest)) % 256 ≡ byte_sum (digit_bytes s) % 256
 
 module _ (s : List ℕ) where
-  pub summing_none : (rest : List ℕ) → rest ≡ s → all_digits s ≡ true → Summing s rest 0
-  summing_none rest e h = rw e (record { good = h; small = omega arith; sums = omega arith })
-
   -- the next pair is of digits
   pub pair_digits : (rest pair more : List ℕ) (sum : ℕ) → Summing s rest sum → rest ≡ pair ++ more → length pair ≡ 2
       → (is_digit (get_or pair 0 0) ≡ true) × (is_digit (get_or pair 1 0) ≡ true)
@@ -65,20 +62,13 @@ pub record Addressing (s : List ℕ) (k a : ℕ) : Type 0 where
   pub upto : k ≤ length s
   pub number : a ≡ number_at k s 0
 
-module _ (s : List ℕ) where
-  pub addressing_none : Addressing s 0 0
-  addressing_none = record { upto = omega arith; number = refl }
+module _ (s : List ℕ) (k a : ℕ) (r : Addressing s k a) where
+  -- another digit fits
+  pub addressing_fits : k < length s → length s ≤ 8 → a < 16 ^ 7
+  addressing_fits h g =
+      let l : k ≤ 7 = omega arith in
+      rw r.number (lt_of_lt_of_le (number_small k s 0) (pow-le-pow_right {n = 16} (omega arith) l))
 
-  module _ (k a : ℕ) (r : Addressing s k a) where
-    -- another digit fits
-    pub addressing_fits : k < length s → length s ≤ 8 → a < 16 ^ 7
-    addressing_fits h g =
-        let l : k ≤ 7 = omega arith in
-        rw r.number (lt_of_lt_of_le (number_small k s 0) (pow-le-pow_right {n = 16} (omega arith) l))
-
-    pub addressing_more : (d : ℕ) → k < length s → d ≡ digit_of (get_or s k 0) → Addressing s (k + 1) (a * 16 + d)
-    addressing_more d h e =
-        rw add-one (record { upto = h; number = rw (r.number, e, zero-add) refl })
-
-    pub addressing_all : length s ≤ k → a ≡ number_at (length s) s 0
-    addressing_all h = let e : k ≡ length s = omega (arith, r.upto) in r.number ∙ rw e refl
+  pub addressing_more : (d : ℕ) → k < length s → d ≡ digit_of (get_or s k 0) → Addressing s (k + 1) (a * 16 + d)
+  addressing_more d h e =
+      rw add-one (record { upto = h; number = rw (r.number, e, zero-add) refl })
