@@ -46,11 +46,6 @@ module _ (b : ℕ) where
 pub number_2 : (s : List ℕ) (i : ℕ) → number_at 2 s i ≡ digit_of (get_or s i 0) * 16 + digit_of (get_or s (i + 1) 0)
 number_2 s i = rw add-zero (omega arith)
 
-pub number_next : (n : ℕ) (s : List ℕ) (i : ℕ) → number_at (suc (suc n)) s i ≡ number_at n s i * 256 + number_at 2 s (i + n)
-number_next n s i =
-    let e : i + suc n ≡ i + n + 1 = omega arith in
-    rw (number_2 s (i + n), e) (omega arith)
-
 -- ---- a line of which each byte is tried
 
 all_of_each : (s : List ℕ) → ((k : ℕ) → k < length s → is_digit (get_or s k 0) ≡ true) → all_digits s ≡ true

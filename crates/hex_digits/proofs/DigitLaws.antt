@@ -15,8 +15,8 @@ use Rattle.word.proofs.CaseLaws.{by_test, and_left, and_right}
 use Rattle.word.proofs.FieldLaws.{digits_pow}
 use Rattle.word.proofs.EveryLaws.{every, holds}
 use Rattle.hex_digits.specs.Digits.{is_decimal, is_letter, is_digit, all_digits, digit_of, number_at, digit_byte, digits}
-use Rattle.hex_digits.specs.Output.{Output, output, written, printed}
-use Rattle.hex_digits.proofs.OutputLaws.{set_before, room_printed}
+use Rattle.hex_digits.specs.Output.{written}
+use Rattle.hex_digits.proofs.OutputLaws.{set_before}
 
 -- ---- digits put into a buffer, the last one first
 
@@ -135,12 +135,6 @@ length_digits (suc n) x = ap suc (length_digits n x)
 pub all_digits_law : (n x : ℕ) → all_digits (digits n x) ≡ true
 all_digits_law zero x = refl
 all_digits_law (suc n) x = rw (digit_is (x / 16 ^ n % 16) (mod-lt (x / 16 ^ n) (omega arith)), all_digits_law n x) refl
-
--- what digits leave for which there is room
-pub put_in : (o x : List ℕ) (p n v r : ℕ) → p + n ≤ length o → output x r ≡ printed (digits n v) (output o p) → x ≡ written o p (digits n v)
-put_in o x p n v r h e =
-    let k : p + length (digits n v) ≤ length o = rw (length_digits n v) h in
-    ap (λ (z : Output). z.bytes) (e ∙ room_printed (digits n v) o p k)
 
 -- the first digit apart
 number_front : (n : ℕ) (s : List ℕ) (i : ℕ) → number_at (suc n) s i ≡ digit_of (get_or s i 0) * 16 ^ n + number_at n s (suc i)
