@@ -33,6 +33,7 @@ READ = {
 
 THIN = 4        # characters
 TRAITS = {'Read', 'Write', 'Print'}     # imported for their methods
+TACTIC = re.compile(r'crate::(specs|proofs)::(\w+)::(\w+)')     # a law that a function's tactic uses
 MODULE = re.compile(r'Rattle\.(\w+)\.(specs|proofs)\.(\w+)')
 DECLARED = re.compile(r'( *)(?:(?:pub|abbrev|unfoldable|data|record|infix\w* \d+) )*([^\s:(){}=.]+(?: [^\s:(){}=.]+)*)'
                       r'(?: *[({][^:]*:[^)}]*[)}])* *: ')
@@ -78,6 +79,9 @@ class File:
                 found[module.groups()].update(name for name, here in imported(text) if stands(here, self.words))
             elif module:
                 found[module.groups()] |= self.words
+        for _, line in self.code:
+            for folder, module, name in TACTIC.findall(line):
+                found[self.path.parts[0], folder, module].add(name)
         return found
 
 

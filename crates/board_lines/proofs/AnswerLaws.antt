@@ -1,97 +1,66 @@
--- The lines that are printed: digits by twos, and texts one after the other.
+-- The lines that are printed, part after part.
 -- Assumes nothing.
-use Rattle.std.proofs.Common.{◌≡◌, ℕ, zero, suc, ◌+◌, ◌/◌, ◌%◌, ◌<◌, ◌≤◌, List, [], ◌∷◌, ◌++◌, length, get_or, set, sym, refl, ap, ◌∙◌, div-one, add-one}
-use native.Mathlib.Nat.{div-div-eq-div-mul}
-use Rattle.hex_digits.specs.Digits.{digit_byte, digits}
-use Rattle.hex_digits.specs.Output.{written, output, printed}
-use Rattle.hex_digits.proofs.OutputLaws.{on, fits, full}
-use Rattle.board_lines.specs.Answers.{refused_line, unless_done, ran_line}
+use Rattle.std.proofs.Common.{◌≡◌, ℕ, ◌+◌, Bool, true, false, leb, [], ◌∷◌, ◌++◌, length, sym, refl, ap, ◌∙◌, arith, leb-true}
+use Rattle.hex_digits.specs.Digits.{digits}
+use Rattle.hex_digits.specs.Output.{Output, printed}
+use Rattle.hex_digits.proofs.OutputLaws.{on_printed, left_out}
+use Rattle.board_lines.specs.Answers.{refused_line, ran_line}
 use Rattle.board_lines.specs.Totals.{totals_line}
-use Rattle.board_lines.specs.Printouts.{Tally, totals_at, refusal_added, run_added, Printout, printout, tallied}
-use Rattle.board_lines.proofs.TotalsLaws.{refused_added, ran_added, tallied_none, tallied_in, tallied_out}
+use Rattle.board_lines.specs.Printouts.{Tally, totals_at, printout, totalled, refusal_added, run_added, tallied}
+use Rattle.board_lines.proofs.TotalsLaws.{refused_added, ran_added, tallied_whole, tallied_left}
 
--- ---- digits
+module _ (o : Output) (t : Bool) where
+  -- 82
+  module _ (r l : ℕ) (g : t ≡ leb (o.place + 13) (length o.bytes)) where
+    pub refusal_put : (a b c d : Output) → t ≡ true → a ≡ printed (digits 2 0x82) o → b ≡ printed (digits 2 r) a
+        → c ≡ printed (digits 8 l) b → d ≡ printed (10 ∷ []) c → d ≡ printed (refused_line r l) o
+    refusal_put a b c d h e f i j =
+        let k = leb-true _ _ (sym g ∙ h) in
+        let q = on_printed (digits 2 0x82) (digits 2 r) o a b 2 2 refl refl (omega (arith, k)) e f in
+        let q = on_printed (digits 2 0x82 ++ digits 2 r) (digits 8 l) o b c 4 8 refl refl (omega (arith, k)) q i in
+        on_printed (digits 2 0x82 ++ digits 2 r ++ digits 8 l) (10 ∷ []) o c d 12 1 refl refl (omega (arith, k)) q j
 
-pub byte_written : (o : List ℕ) (p x c d : ℕ) → c ≡ digit_byte (x / 16 % 16) → d ≡ digit_byte (x % 16)
-    → set (set o p c) (p + 1) d ≡ written o p (digits 2 x)
-byte_written o p x c d e g = rw (add-one, e, g, div-one) refl
+    pub refusal_left : t ≡ false → o ≡ printed (refused_line r l) o
+    refusal_left h = left_out (refused_line r l) o.bytes o.place 13 t refl g h
 
-four : (x : ℕ) → digits 2 (x / 0x100_0000) ++ digits 2 (x / 0x1_0000) ++ digits 2 (x / 0x100) ++ digits 2 x ≡ digits 8 x
-four x =
-    rw (div-one (x / 0x100_0000), div-one (x / 0x1_0000), div-one (x / 0x100), div-div-eq-div-mul x 0x100_0000 16, div-div-eq-div-mul x 0x1_0000 16, div-div-eq-div-mul x 0x100 16) refl
+    module _ (k : Tally) where
+      pub refused_put : (x : Output) (c : Tally) → t ≡ true → x ≡ printed (refused_line r l) o → c ≡ refusal_added k
+          → printout x c ≡ tallied (refused_line r l) (printout o k)
+      refused_put x c h e f = tallied_whole (refused_line r l) (printout o k) 13 t refl g x c h e (f ∙ sym (refused_added r l k))
 
-pub word_written : (o w x y z : List ℕ) (p v : ℕ) → w ≡ written o p (digits 2 (v / 0x100_0000))
-    → x ≡ written w (p + 2) (digits 2 (v / 0x1_0000)) → y ≡ written x (p + 4) (digits 2 (v / 0x100)) → z ≡ written y (p + 6) (digits 2 v)
-    → z ≡ written o p (digits 8 v)
-word_written o w x y z p v e f g h =
-    let a = on (digits 2 (v / 0x100_0000)) (digits 2 (v / 0x1_0000)) o w x p (p + 2) e f refl in
-    let b = on (digits 2 (v / 0x100_0000) ++ digits 2 (v / 0x1_0000)) (digits 2 (v / 0x100)) o x y p (p + 4) a g refl in
-    on (digits 2 (v / 0x100_0000) ++ digits 2 (v / 0x1_0000) ++ digits 2 (v / 0x100)) (digits 2 v) o y z p (p + 6) b h refl
-    ∙ ap (written o p) (four v)
+      pub refused_left : t ≡ false → printout o k ≡ tallied (refused_line r l) (printout o k)
+      refused_left h = tallied_left (refused_line r l) (printout o k) 13 t refl g h
 
--- ---- a line, whole or left out
+  -- 83
+  module _ (k : Tally) (n a b c d : ℕ) (g : t ≡ leb (o.place + 31) (length o.bytes)) where
+    pub ran_put : (u v w x y z e : Output) (m : Tally) → t ≡ true → u ≡ printed (digits 2 0x83) o → v ≡ printed (digits 8 n) u
+        → w ≡ printed (digits 2 a) v → x ≡ printed (digits 2 b) w → y ≡ printed (digits 8 c) x → z ≡ printed (digits 8 d) y
+        → e ≡ printed (10 ∷ []) z → m ≡ run_added n a k → printout e m ≡ tallied (ran_line n a b c d) (printout o k)
+    ran_put u v w x y z e m h f₁ f₂ f₃ f₄ f₅ f₆ f₇ f₈ =
+        let i = leb-true _ _ (sym g ∙ h) in
+        let q = on_printed (digits 2 0x83) (digits 8 n) o u v 2 8 refl refl (omega (arith, i)) f₁ f₂ in
+        let q = on_printed (digits 2 0x83 ++ digits 8 n) (digits 2 a) o v w 10 2 refl refl (omega (arith, i)) q f₃ in
+        let q = on_printed (digits 2 0x83 ++ digits 8 n ++ digits 2 a) (digits 2 b) o w x 12 2 refl refl (omega (arith, i)) q f₄ in
+        let q = on_printed (digits 2 0x83 ++ digits 8 n ++ digits 2 a ++ digits 2 b) (digits 8 c) o x y 14 8 refl refl (omega (arith, i)) q f₅ in
+        let q = on_printed (digits 2 0x83 ++ digits 8 n ++ digits 2 a ++ digits 2 b ++ digits 8 c) (digits 8 d) o y z 22 8 refl refl (omega (arith, i)) q f₆ in
+        let q = on_printed (digits 2 0x83 ++ digits 8 n ++ digits 2 a ++ digits 2 b ++ digits 8 c ++ digits 8 d) (10 ∷ []) o z e 30 1 refl refl (omega (arith, i)) q f₇ in
+        tallied_whole (ran_line n a b c d) (printout o k) 31 t refl g e m h q (f₈ ∙ sym (ran_added n a b c d k))
 
--- the 82 line, where nothing is counted
-module _ (o : List ℕ) (p r l : ℕ) where
-  pub refused_written : (w x y : List ℕ) → w ≡ written o p (digits 2 0x82) → x ≡ written w (p + 2) (digits 2 r)
-      → y ≡ written x (p + 4) (digits 8 l) → set y (p + 12) 10 ≡ written o p (refused_line r l)
-  refused_written w x y e f g =
-      let a = on (digits 2 0x82) (digits 2 r) o w x p (p + 2) e f refl in
-      let b = on (digits 2 0x82 ++ digits 2 r) (digits 8 l) o x y p (p + 4) a g refl in
-      on (digits 2 0x82 ++ digits 2 r ++ digits 8 l) (10 ∷ []) o y (set y (p + 12) 10) p (p + 12) b refl refl
+    pub ran_left : t ≡ false → printout o k ≡ tallied (ran_line n a b c d) (printout o k)
+    ran_left h = tallied_left (ran_line n a b c d) (printout o k) 31 t refl g h
 
-  pub refusal_in : (w : List ℕ) → p + 13 ≤ length o → w ≡ written o p (refused_line r l)
-      → output w (p + 13) ≡ printed (refused_line r l) (output o p)
-  refusal_in w h e = fits (refused_line r l) o p w 13 refl h e
+  -- 8F
+  module _ (k : Tally) (g : t ≡ leb (o.place + 27) (length o.bytes)) where
+    pub totals_put : (v w x y z : Output) → t ≡ true → v ≡ printed (digits 2 0x8F) o → w ≡ printed (digits 8 k.runs) v
+        → x ≡ printed (digits 8 k.steps) w → y ≡ printed (digits 8 k.refused) x → z ≡ printed (10 ∷ []) y
+        → printout z k ≡ totalled (printout o k)
+    totals_put v w x y z h f₁ f₂ f₃ f₄ f₅ =
+        let i = leb-true _ _ (sym g ∙ h) in
+        let q = on_printed (digits 2 0x8F) (digits 8 k.runs) o v w 2 8 refl refl (omega (arith, i)) f₁ f₂ in
+        let q = on_printed (digits 2 0x8F ++ digits 8 k.runs) (digits 8 k.steps) o w x 10 8 refl refl (omega (arith, i)) q f₃ in
+        let q = on_printed (digits 2 0x8F ++ digits 8 k.runs ++ digits 8 k.steps) (digits 8 k.refused) o x y 18 8 refl refl (omega (arith, i)) q f₄ in
+        ap (λ (s : Output). printout s k)
+        (on_printed (digits 2 0x8F ++ digits 8 k.runs ++ digits 8 k.steps ++ digits 8 k.refused) (10 ∷ []) o y z 26 1 refl refl (omega (arith, i)) q f₅)
 
-  pub refusal_out : length o < p + 13 → output o p ≡ printed (refused_line r l) (output o p)
-  refusal_out h = full (refused_line r l) o p 13 refl h
-
-module _ (o : List ℕ) (p : ℕ) (k : Tally) where
-  pub refused_in_law : (w : List ℕ) (t : Tally) (r l : ℕ) → p + 13 ≤ length o → w ≡ written o p (refused_line r l) → t ≡ refusal_added k
-      → printout (output w (p + 13)) t ≡ tallied (refused_line r l) (printout (output o p) k)
-  refused_in_law w t r l h e d =
-      tallied_in (refused_line r l) o p k _ t h (fits (refused_line r l) o p w 13 refl h e) (d ∙ sym (refused_added r l k))
-
-  pub refused_out : (r l : ℕ) → length o < p + 13 → printout (output o p) k ≡ tallied (refused_line r l) (printout (output o p) k)
-  refused_out r l h = tallied_out (refused_line r l) o p k h
-
-  -- nothing printed, and a refusal printed
-  pub unless_done_law : (n r : ℕ) → r ≡ 0 → printout (output o p) k ≡ tallied (unless_done n r) (printout (output o p) k)
-  unless_done_law n r e = rw e (sym (tallied_none (printout (output o p) k)))
-
-  module _ (n a b c d : ℕ) where
-    pub ran_in : (s t u v w x : List ℕ) (z : Tally) → p + 31 ≤ length o → s ≡ written o p (digits 2 0x83) → t ≡ written s (p + 2) (digits 8 n)
-        → u ≡ written t (p + 10) (digits 2 a) → v ≡ written u (p + 12) (digits 2 b) → w ≡ written v (p + 14) (digits 8 c)
-        → x ≡ written w (p + 22) (digits 8 d) → z ≡ run_added n a k
-        → printout (output (set x (p + 30) 10) (p + 31)) z ≡ tallied (ran_line n a b c d) (printout (output o p) k)
-    ran_in s t u v w x z h e f g i j l m =
-        let q = on (digits 2 0x83) (digits 8 n) o s t p (p + 2) e f refl in
-        let q = on (digits 2 0x83 ++ digits 8 n) (digits 2 a) o t u p (p + 10) q g refl in
-        let q = on (digits 2 0x83 ++ digits 8 n ++ digits 2 a) (digits 2 b) o u v p (p + 12) q i refl in
-        let q = on (digits 2 0x83 ++ digits 8 n ++ digits 2 a ++ digits 2 b) (digits 8 c) o v w p (p + 14) q j refl in
-        let q = on (digits 2 0x83 ++ digits 8 n ++ digits 2 a ++ digits 2 b ++ digits 8 c) (digits 8 d) o w x p (p + 22) q l refl in
-        let q = on (digits 2 0x83 ++ digits 8 n ++ digits 2 a ++ digits 2 b ++ digits 8 c ++ digits 8 d) (10 ∷ []) o x (set x (p + 30) 10) p (p + 30) q refl refl in
-        tallied_in (ran_line n a b c d) o p k _ z h (fits (ran_line n a b c d) o p (set x (p + 30) 10) 31 refl h q) (m ∙ sym (ran_added n a b c d k))
-
-    pub ran_out : length o < p + 31 → printout (output o p) k ≡ tallied (ran_line n a b c d) (printout (output o p) k)
-    ran_out h = tallied_out (ran_line n a b c d) o p k h
-
-pub unless_refused_law : (n r : ℕ) (q x : Printout) → (r ≡ 0 → ⊥) → x ≡ tallied (refused_line r n) q → x ≡ tallied (unless_done n r) q
-unless_refused_law n zero q x h e = absurd (h refl)
-unless_refused_law n (suc r) q x h e = e
-
--- the 8F line
-module _ (o : List ℕ) (p : ℕ) (k : Tally) where
-  pub totals_in : (w x y z : List ℕ) → p + 27 ≤ length o → w ≡ written o p (digits 2 0x8F) → x ≡ written w (p + 2) (digits 8 (get_or k 0 0))
-      → y ≡ written x (p + 10) (digits 8 (get_or k 1 0)) → z ≡ written y (p + 18) (digits 8 (get_or k 2 0))
-      → output (set z (p + 26) 10) (p + 27) ≡ printed (totals_line (totals_at k)) (output o p)
-  totals_in w x y z h e f g i =
-      let q = on (digits 2 0x8F) (digits 8 (get_or k 0 0)) o w x p (p + 2) e f refl in
-      let q = on (digits 2 0x8F ++ digits 8 (get_or k 0 0)) (digits 8 (get_or k 1 0)) o x y p (p + 10) q g refl in
-      let q = on (digits 2 0x8F ++ digits 8 (get_or k 0 0) ++ digits 8 (get_or k 1 0)) (digits 8 (get_or k 2 0)) o y z p (p + 18) q i refl in
-      let q = on (digits 2 0x8F ++ digits 8 (get_or k 0 0) ++ digits 8 (get_or k 1 0) ++ digits 8 (get_or k 2 0)) (10 ∷ []) o z (set z (p + 26) 10) p (p + 26) q refl refl in
-      fits (totals_line (totals_at k)) o p (set z (p + 26) 10) 27 refl h q
-
-  pub totals_out : length o < p + 27 → output o p ≡ printed (totals_line (totals_at k)) (output o p)
-  totals_out h = full (totals_line (totals_at k)) o p 27 refl h
+    pub totals_left : t ≡ false → printout o k ≡ totalled (printout o k)
+    totals_left h = ap (λ (s : Output). printout s k) (left_out (totals_line (totals_at k)) o.bytes o.place 27 t refl g h)

@@ -1,10 +1,11 @@
 -- Digits: the number of one, numbers of two and eight, and the test of a whole line.
 -- Assumes nothing.
+use Rattle.std.specs.Prelude.{◌↔◌, IsTrue, EachIndex, slice_index}
 use Rattle.std.proofs.Common.{◌≡◌, ℕ, suc, ◌+◌, ◌-◌, ◌*◌, ◌/◌, ◌%◌, ◌<◌, ◌≤◌, Bool, true, false, ◌&&◌, ◌||◌, leb, List, [], ◌∷◌, ◌++◌, length, get_or, take, drop, sym, refl, ap, ◌∙◌, true≢false, add-zero, arith, length-drop, take-append-drop, get_or-drop, take_all, drop-cons, take-suc, drop-drop, take-add, leb-true}
 use mathlib.Core.Bool.{and-true, and-false}
 use Rattle.word.proofs.CaseLaws.{by_test, and_left, and_right}
 use Rattle.hex_digits.specs.Digits.{is_decimal, is_letter, is_digit, all_digits, digit_of, number_at}
-use Rattle.hex_digits.proofs.DigitLaws.{all_append}
+use Rattle.hex_digits.proofs.DigitLaws.{all_append, digit_at}
 
 -- ---- a digit's number
 
@@ -45,14 +46,18 @@ module _ (b : ℕ) where
 pub number_2 : (s : List ℕ) (i : ℕ) → number_at 2 s i ≡ digit_of (get_or s i 0) * 16 + digit_of (get_or s (i + 1) 0)
 number_2 s i = rw add-zero (omega arith)
 
-pub number_next : (n : ℕ) (s : List ℕ) (i : ℕ) → number_at (suc (suc n)) s i ≡ number_at n s i * 256 + number_at 2 s (i + n)
-number_next n s i =
-    let e : i + suc n ≡ i + n + 1 = omega arith in
-    rw (number_2 s (i + n), e) (omega arith)
+-- ---- a line of which each byte is tried
 
-pub number_8 : (s : List ℕ) (i : ℕ)
-    → number_at 8 s i ≡ ((number_at 2 s i * 256 + number_at 2 s (i + 2)) * 256 + number_at 2 s (i + 4)) * 256 + number_at 2 s (i + 6)
-number_8 s i = rw (number_next 6 s i, number_next 4 s i, number_next 2 s i) refl
+all_of_each : (s : List ℕ) → ((k : ℕ) → k < length s → is_digit (get_or s k 0) ≡ true) → all_digits s ≡ true
+all_of_each [] f = refl
+all_of_each (b ∷ s) f = rw (f 0 (omega arith)) (all_of_each s (λ k h. f (suc k) (omega arith)))
+
+pub each_digit : (s : List ℕ) (r : Bool) → (IsTrue r ↔ EachIndex s (λ k. is_digit (slice_index s k) ≡ true)) → r ≡ all_digits s
+each_digit s true f = sym (all_of_each s (f.0 refl))
+each_digit s false f =
+    by_test (all_digits s)
+    (λ e. absurd (true≢false (sym (f.1 (λ k h. digit_at s k e h)))))
+    (λ e. sym e)
 
 -- ---- a line read up to its byte i
 
@@ -107,9 +112,6 @@ module _ (s : List ℕ) where
         (all_append (take k (drop i s)) (drop k (drop i s)) ∙ ap (λ (b : Bool). b && all_digits (drop k (drop i s))) (sym e ∙ f))
         ∙ and-false (all_digits (take i s))
         )
-
-  pub read_through : (i : ℕ) → Read s i → length s ≤ i → true ≡ all_digits s
-  read_through i r h = sym r.good ∙ ap all_digits (take_all i s h)
 
   -- what was read covers all but the last k
   pub read_all : (k i : ℕ) (x : Bool) → Read s i → k ≤ length s → length s ≤ i + k

@@ -1,8 +1,7 @@
 -- Lines counted as they are printed give the sums of their totals.
 -- Assumes nothing.
-use Rattle.std.proofs.Common.{◌≡◌, ℕ, ◌+◌, ◌/◌, ◌%◌, ◌^◌, ◌<◌, ◌≤◌, Bool, true, cond, ◌&&◌, eqb, leb, List, [], ◌∷◌, ◌++◌, length, get_or, set, sym, refl, ap, ◌∙◌, add-zero, add_assoc, zero-add, arith, length-set, get_or-set_other, get_or-set_same, eq-eqb, ne_eqb, le-leb}
+use Rattle.std.proofs.Common.{◌≡◌, ℕ, ◌+◌, ◌/◌, ◌%◌, ◌^◌, ◌≤◌, Bool, true, false, cond, ◌&&◌, eqb, leb, List, [], ◌∷◌, ◌++◌, length, sym, refl, ap, ◌∙◌, add-zero, add_assoc, zero-add, le-leb}
 use native.Mathlib.Nat.{mod-add-mod, add-mod-mod}
-use borrow.Author.Tests.{lt-leb}
 use Rattle.word.proofs.CaseLaws.{by_test}
 use Rattle.hex_digits.specs.Digits.{all_digits, digit_of, digit_byte, number_at, digits}
 use Rattle.hex_digits.specs.Output.{Output, newline, output, written, printed}
@@ -11,7 +10,7 @@ use Rattle.hex_digits.proofs.OutputLaws.{room_printed, printed_none}
 use Rattle.lines.specs.Texts.{lines_of}
 use Rattle.board_lines.specs.Answers.{refused_kind, ran_kind, refused_line, ran_line, steps_place, stop_place, code_place, refused_stop}
 use Rattle.board_lines.specs.Totals.{Totals, totals, is_run_line, is_refused, runs_in, steps_in, refused_in, sum_over, totals_of, totals_kind, totals_line}
-use Rattle.board_lines.specs.Printouts.{Tally, totals_at, start_tally, added_at, added_if, line_added, lines_added, refusal_added, run_added, Printout, printout, tallied}
+use Rattle.board_lines.specs.Printouts.{Tally, tally, totals_at, start_tally, run_counted, added_if, line_added, lines_added, refusal_added, run_added, Printout, printout, tallied}
 use Rattle.lines.proofs.TextLaws.{unended, LineText, one_line, digits_line}
 
 -- ---- printed lines are one line of digits each
@@ -73,29 +72,14 @@ module _ (steps stop code counter status : ℕ) where
   unfolding lines_added digit_of digit_byte
   ran_added k =
       ap (λ (l : List (List ℕ)). lines_added l k) ran_lines
-      ∙ (λ i. added_if (eqb (read_stop i) refused_stop) 2 1 (added_at 1 (read_steps i) (added_at 0 1 k)))
-      ∙ ap (λ (x : ℕ). added_if (eqb (stop % 256) refused_stop) 2 1 (set (added_at 0 1 k) 1 x)) (add-mod-mod (get_or (added_at 0 1 k) 1 0) steps (2 ^ 32))
+      ∙ (λ i. added_if (eqb (read_stop i) refused_stop) refusal_added (run_counted (read_steps i) k))
+      ∙ ap (λ (x : ℕ). added_if (eqb (stop % 256) refused_stop) refusal_added (tally ((k.runs + 1) % 2 ^ 32) x k.refused)) (add-mod-mod k.steps steps (2 ^ 32))
 
 -- the 8F line is neither kind of line
 pub totals_lines : (t : Totals) → lines_of (totals_line t) ≡ unended (totals_line t) ∷ []
 totals_lines t =
     kind_lines totals_kind (digits 8 t.runs ++ digits 8 t.steps ++ digits 8 t.refused)
     (more_digits 8 t.runs (digits 8 t.steps ++ digits 8 t.refused) (more_digits 8 t.steps (digits 8 t.refused) (all_digits_law 8 t.refused)))
-
--- ---- kept by the code
-
-pub refusal_kept : (k : Tally) (x : ℕ) → x ≡ (get_or k 2 0 + 1) % 2 ^ 32 → set k 2 x ≡ refusal_added k
-refusal_kept k x e = ap (set k 2) e
-
-module _ (k : Tally) (steps stop x y : ℕ) (a : x ≡ (get_or k 0 0 + 1) % 2 ^ 32) (b : y ≡ (get_or (set k 0 x) 1 0 + steps) % 2 ^ 32) where
-  both_added : set (set k 0 x) 1 y ≡ added_at 1 steps (added_at 0 1 k)
-  both_added = ap (set (set k 0 x) 1) b ∙ ap (λ (z : ℕ). added_at 1 steps (set k 0 z)) a
-
-  pub run_kept : (stop % 256 ≡ 1 → ⊥) → set (set k 0 x) 1 y ≡ run_added steps stop k
-  run_kept h = rw (ne_eqb (stop % 256) 1 h) both_added
-
-  pub refused_run_kept : (z : Tally) → stop % 256 ≡ 1 → z ≡ refusal_added (set (set k 0 x) 1 y) → z ≡ run_added steps stop k
-  refused_run_kept z h e = rw (eq-eqb (stop % 256) 1 h) (e ∙ ap refusal_added both_added)
 
 -- ---- lines after lines
 
@@ -106,56 +90,31 @@ added_after (s ∷ l) m k = added_after l m (line_added s k)
 
 -- ---- the sums
 
--- a word of the tally, and the sum that it stands for
-abbrev Sum : Tally → ℕ → ℕ → Type 0
-Sum k i n = get_or k i 0 ≡ n % 2 ^ 32
-
-module _ (b : Bool) (i n : ℕ) (k : Tally) where
-  length_added : length (added_if b i n k) ≡ length k
-  length_added = by_test b (λ e. rw e (length-set k i ((get_or k i 0 + n) % 2 ^ 32))) (λ e. rw e refl)
-
-  sum_same : (x : ℕ) → i < length k → Sum k i x → Sum (added_if b i n k) i (x + cond b n 0)
-  sum_same x h s =
-      by_test b
-      (λ e. rw e (get_or-set_same k i ((get_or k i 0 + n) % 2 ^ 32) 0 h ∙ ap (λ (y : ℕ). (y + n) % 2 ^ 32) s ∙ mod-add-mod x (2 ^ 32) n))
-      (λ e. rw (e, add-zero) s)
-
-  sum_other : (j x : ℕ) → (j ≡ i → ⊥) → Sum k j x → Sum (added_if b i n k) j x
-  sum_other j x d s = by_test b (λ e. rw e (get_or-set_other k i j ((get_or k i 0 + n) % 2 ^ 32) 0 d ∙ s)) (λ e. rw e s)
-
 record TallySums (k : Tally) (runs steps refused : ℕ) : Type 0 where
-  long : length k ≡ 3
-  runs_sum : Sum k 0 runs
-  steps_sum : Sum k 1 steps
-  refused_sum : Sum k 2 refused
+  runs_sum : k.runs ≡ runs % 2 ^ 32
+  steps_sum : k.steps ≡ steps % 2 ^ 32
+  refused_sum : k.refused ≡ refused % 2 ^ 32
+
+sum_more : (x n m : ℕ) → x ≡ m % 2 ^ 32 → (x + n) % 2 ^ 32 ≡ (m + n) % 2 ^ 32
+sum_more x n m e = ap (λ (y : ℕ). (y + n) % 2 ^ 32) e ∙ mod-add-mod m (2 ^ 32) n
+
+module _ (k : Tally) (runs steps refused : ℕ) (e : TallySums k runs steps refused) (b : Bool) where
+  run_sums : (n : ℕ) → TallySums (added_if b (run_counted n) k) (runs + cond b 1 0) (steps + cond b n 0) refused
+  run_sums n =
+      by_test b
+      (λ t. rw t (record { runs_sum = sum_more k.runs 1 runs e.runs_sum; steps_sum = sum_more k.steps n steps e.steps_sum; refused_sum = e.refused_sum }))
+      (λ t. rw (t, add-zero runs, add-zero steps) e)
+
+  refused_sums : TallySums (added_if b refusal_added k) runs steps (refused + cond b 1 0)
+  refused_sums =
+      by_test b
+      (λ t. rw t (record { runs_sum = e.runs_sum; steps_sum = e.steps_sum; refused_sum = sum_more k.refused 1 refused e.refused_sum }))
+      (λ t. rw (t, add-zero refused) e)
 
 line_sums : (s : List ℕ) (k : Tally) (runs steps refused : ℕ) → TallySums k runs steps refused
     → TallySums (line_added s k) (runs + runs_in s) (steps + steps_in s) (refused + refused_in s)
 line_sums s k runs steps refused e =
-    record {
-      long = length_added (is_refused s) 2 1 after_steps ∙ length_added (is_run_line s) 1 done after_runs ∙ length_added (is_run_line s) 0 1 k ∙ e.long;
-      runs_sum =
-          sum_other (is_refused s) 2 1 after_steps 0 (runs + runs_in s) (omega arith)
-          (sum_other (is_run_line s) 1 done after_runs 0 (runs + runs_in s) (omega arith)
-          (sum_same (is_run_line s) 0 1 k runs (omega (arith, e.long)) e.runs_sum));
-      steps_sum =
-          sum_other (is_refused s) 2 1 after_steps 1 (steps + steps_in s) (omega arith)
-          (sum_same (is_run_line s) 1 done after_runs steps (omega (arith, e.long, length_added (is_run_line s) 0 1 k))
-          (sum_other (is_run_line s) 0 1 k 1 steps (omega arith) e.steps_sum));
-      refused_sum =
-          sum_same (is_refused s) 2 1 after_steps refused
-          (omega (arith, e.long, length_added (is_run_line s) 0 1 k, length_added (is_run_line s) 1 done after_runs))
-          (sum_other (is_run_line s) 1 done after_runs 2 refused (omega arith) (sum_other (is_run_line s) 0 1 k 2 refused (omega arith) e.refused_sum));
-    }
-  where
-    done : ℕ
-    done = number_at 8 s steps_place
-
-    after_runs : Tally
-    after_runs = added_if (is_run_line s) 0 1 k
-
-    after_steps : Tally
-    after_steps = added_if (is_run_line s) 1 done after_runs
+    refused_sums _ _ _ refused (run_sums k runs steps refused e (is_run_line s) (number_at 8 s steps_place)) (is_refused s)
 
 added_sums : (l : List (List ℕ)) (k : Tally) (runs steps refused : ℕ) → TallySums k runs steps refused
     → totals_at (lines_added l k)
@@ -169,24 +128,26 @@ added_sums (s ∷ l) k runs steps refused e =
 
 pub added_totals : (l : List (List ℕ)) → totals_at (lines_added l start_tally) ≡ totals_of l
 added_totals l =
-    added_sums l start_tally 0 0 0 (record { long = refl; runs_sum = refl; steps_sum = refl; refused_sum = refl })
+    added_sums l start_tally 0 0 0 (record { runs_sum = refl; steps_sum = refl; refused_sum = refl })
     ∙ rw (zero-add (sum_over runs_in l), zero-add (sum_over steps_in l), zero-add (sum_over refused_in l)) refl
 
 -- ---- a text, printed and counted or left out
 
-module _ (t o : List ℕ) (p : ℕ) (k : Tally) where
-  pub tallied_in : (x : Output) (c : Tally) → p + length t ≤ length o → x ≡ printed t (output o p) → c ≡ lines_added (lines_of t) k
-      → printout x c ≡ tallied t (printout (output o p) k)
+-- by what the code asked: whether it has room
+module _ (t : List ℕ) (q : Printout) (n : ℕ) (r : Bool) (e : n ≡ length t) (g : r ≡ leb (q.output.place + n) (length q.output.bytes)) where
+  pub tallied_whole : (x : Output) (c : Tally) → r ≡ true → x ≡ printed t q.output → c ≡ lines_added (lines_of t) q.tally
+      → printout x c ≡ tallied t q
   unfolding tallied
-  tallied_in x c h e g = rw (le-leb (p + length t) (length o) h) (λ i. printout (e i) (g i))
+  tallied_whole x c h f l = rw (sym e, sym g ∙ h) (λ i. printout (f i) (l i))
 
-  pub tallied_room : p + length t ≤ length o
-      → tallied t (printout (output o p) k) ≡ printout (output (written o p t) (p + length t)) (lines_added (lines_of t) k)
-  tallied_room h = sym (tallied_in (output (written o p t) (p + length t)) (lines_added (lines_of t) k) h (sym (room_printed t o p h)) refl)
-
-  pub tallied_out : length o < p + length t → printout (output o p) k ≡ tallied t (printout (output o p) k)
+  pub tallied_left : r ≡ false → q ≡ tallied t q
   unfolding tallied
-  tallied_out h = rw (lt-leb (p + length t) (length o) h) refl
+  tallied_left h = rw (sym e, sym g ∙ h) refl
+
+pub tallied_room : (t o : List ℕ) (p : ℕ) (k : Tally) → p + length t ≤ length o
+    → tallied t (printout (output o p) k) ≡ printout (output (written o p t) (p + length t)) (lines_added (lines_of t) k)
+tallied_room t o p k h =
+    sym (tallied_whole t (printout (output o p) k) (length t) true refl (sym (le-leb (p + length t) (length o) h)) _ _ refl (sym (room_printed t o p h)) refl)
 
 pub tallied_none : (p : Printout) → tallied [] p ≡ p
 unfolding tallied lines_added lines_of

@@ -5,7 +5,7 @@ ghost use Rattle.hex_digits.specs.Digits.{is_digit, all_digits, digit_of, number
 fn is_digit(b: u8) -> bool
     ensures { result ≡ is_digit b }
 {
-    ((48 <= b) & (b <= 57)) | ((65 <= b) & (b <= 70))
+    ((b'0' <= b) & (b <= b'9')) | ((b'A' <= b) & (b <= b'F'))
 }
 
 // Eight bytes without a branch between them: the compiler takes them at once.
@@ -23,6 +23,7 @@ fn eight_digits(line: &[u8], i: usize) -> bool
         & is_digit(line[i + 7])
 }
 
+#[tactic(auto, using(crate::proofs::DigitLaws::next_eight))]
 fn sixteen_digits(line: &[u8], i: usize) -> bool
     requires { i + 16 ≤ length line.now }
     ensures { result ≡ all_digits (take 16 (drop i line.now)) }
@@ -34,18 +35,11 @@ fn sixteen_digits(line: &[u8], i: usize) -> bool
 fn few_digits(line: &[u8]) -> bool
     ensures { result ≡ all_digits line.now }
 {
-    let mut i = 0;
-    while i < line.len() {
-        if is_digit(line[i]) {
-            i = i + 1;
-        } else {
-            return false;
-        }
-    }
-    true
+    line.iter().all(|b| is_digit(*b))
 }
 
-// By eights or sixteens, if there are as many. The last ones end with the line, over some that were read already.
+// By eights or sixteens, if there are as many: `all` over the bytes takes twelve instructions a byte, this takes one or two.
+// The last ones end with the line, over some that were read already.
 pub fn all_digits(line: &[u8]) -> bool
     ensures { result ≡ all_digits line.now }
 {
@@ -68,6 +62,7 @@ pub fn all_digits(line: &[u8]) -> bool
 }
 
 // The number of a digit, and some number of any other byte. Bit 6 is set in letters alone, whose low bits count from 1.
+#[tactic(auto, using(crate::proofs::DigitLaws::digit_number))]
 pub fn number_of(b: u8) -> u8
     ensures number { result ≡ b % 16 + b / 64 * 9 }
     ensures digit { is_digit b ≡ true → (result ≡ digit_of b) × (result < 16) }
@@ -75,6 +70,16 @@ pub fn number_of(b: u8) -> u8
     b % 16 + b / 64 * 9
 }
 
+// The number of two digits, and some number of any other bytes.
+pub fn byte_of_digits(high: u8, low: u8) -> u8
+    ensures { is_digit high ≡ true → is_digit low ≡ true → result ≡ digit_of high * 16 + digit_of low }
+{
+    number_of(high)
+        .wrapping_mul(16)
+        .wrapping_add(number_of(low))
+}
+
+#[tactic(auto, using(crate::proofs::DigitLaws::no_digit))]
 fn value(b: u8) -> u8
     ensures { (result ≡ digit_of b) × (result < 16) }
 {
@@ -101,13 +106,7 @@ pub(crate) fn byte_at(line: &[u8], i: usize) -> u8
     requires { (i + 2 ≤ length line.now) × (all_digits line.now ≡ true) }
     ensures { result ≡ number_at 2 line.now i }
 {
-    number_of(line[i]) * 16 + number_of(line[i + 1])
-}
-
-fn wide(b: u8) -> u32
-    ensures { result ≡ b }
-{
-    b as u32
+    byte_of_digits(line[i], line[i + 1])
 }
 
 // The number of the eight digits from i on.
@@ -115,7 +114,10 @@ pub(crate) fn word_at(line: &[u8], i: usize) -> u32
     requires { (i + 8 ≤ length line.now) × (all_digits line.now ≡ true) }
     ensures { result ≡ number_at 8 line.now i }
 {
-    ((wide(byte_at(line, i)) * 256 + wide(byte_at(line, i + 2))) * 256 + wide(byte_at(line, i + 4)))
-        * 256
-        + wide(byte_at(line, i + 6))
+    u32::from_be_bytes([
+        byte_at(line, i),
+        byte_at(line, i + 2),
+        byte_at(line, i + 4),
+        byte_at(line, i + 6),
+    ])
 }

@@ -13,38 +13,32 @@ fn is_length(n: usize) -> bool
 }
 
 // Kinds 01, 03 and 04.
-fn of_twelve(kind: u8, line: &[u8]) -> Frame
+fn of_twelve(kind: u8, line: &[u8]) -> Option<Frame>
     requires { (length line.now ≡ 12) × (all_digits line.now ≡ true) }
     ensures { result ≡ of_twelve kind line.now }
 {
-    if kind == 1 {
-        return Frame::Set(byte_at(line, 2) as u32, word_at(line, 4));
+    match kind {
+        1 => Some(Frame::Set(u32::from(byte_at(line, 2)), word_at(line, 4))),
+        3 => Some(Frame::Run(word_at(line, 2), u32::from(byte_at(line, 10)))),
+        4 => Some(Frame::Confined(word_at(line, 2), u32::from(byte_at(line, 10)))),
+        _ => None,
     }
-    if kind == 3 {
-        return Frame::Run(word_at(line, 2), byte_at(line, 10) as u32);
-    }
-    if kind == 4 {
-        return Frame::Confined(word_at(line, 2), byte_at(line, 10) as u32);
-    }
-    Frame::Bad
 }
 
-pub fn parse(line: &[u8]) -> Frame
+// None is a malformed line.
+pub fn parse(line: &[u8]) -> Option<Frame>
     ensures { numbers_of result ≡ numbers_of (frame_of line.now) }
 {
     let n = line.len();
-    if is_length(n) {
-        if all_digits(line) {
-            let kind = byte_at(line, 0);
-            if kind == 2 {
-                return Frame::Store(word_at(line, 2));
-            }
-            if n == 12 {
-                return of_twelve(kind, line);
-            }
-            return Frame::Bad;
-        }
-        return Frame::Bad;
+    if !is_length(n) {
+        return None;
     }
-    Frame::Bad
+    if !all_digits(line) {
+        return None;
+    }
+    let kind = byte_at(line, 0);
+    if kind == 2 {
+        return Some(Frame::Store(word_at(line, 2)));
+    }
+    if n == 12 { of_twelve(kind, line) } else { None }
 }

@@ -6,11 +6,25 @@ pub mod frames;
 pub mod stores;
 pub mod totals;
 
-// Runs, steps and refused lines, of all lines printed so far.
-pub type Tally = [u32; 3];
+use hex_digits::Output;
 
-// A frame by its kind; Bad is refusal 7.
-#[derive(Clone, Copy)]
+// Runs, steps and refused lines, of all lines printed so far.
+#[derive(Clone, Copy, PartialEq, Eq, Debug)]
+pub struct Tally {
+    pub runs: u32,
+    pub steps: u32,
+    pub refused: u32,
+}
+
+// Where lines are printed, and what they sum to.
+#[derive(Drop)]
+pub struct Printout<'a> {
+    pub output: Output<'a>,
+    pub tally: Tally,
+}
+
+// A frame by its kind.
+#[derive(Clone, Copy, PartialEq, Eq, Debug)]
 pub enum Frame {
     // 01: the register's place in Table 1-1, and its word.
     Set(u32, u32),
@@ -19,5 +33,4 @@ pub enum Frame {
     // 03 and 04: budget and interrupt level.
     Run(u32, u32),
     Confined(u32, u32),
-    Bad,
 }

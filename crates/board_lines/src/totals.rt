@@ -3,39 +3,37 @@ ghost use Rattle.std.specs.Prelude.{◌≡◌};
 ghost use Rattle.board_lines.specs.Printouts.{start_tally, refusal_added, run_added};
 
 use crate::Tally;
-use std::num::wrapping_add_u32;
-
-// Places of a tally.
-pub const RUNS: usize = 0;
-
-pub const STEPS: usize = 1;
-
-pub const REFUSED: usize = 2;
 
 // The stop of a refused run; a line has two digits for it.
 const REFUSED_STOP: u32 = 1;
 
-// Before the first line.
-pub fn start_tally() -> Tally
-    ensures { result ≡ start_tally }
-{
-    [0u32; 3]
-}
+impl Tally {
+    // Before the first line.
+    pub fn start() -> Tally
+        ensures { result ≡ start_tally }
+    {
+        Tally {
+            runs: 0,
+            steps: 0,
+            refused: 0,
+        }
+    }
 
-// An 82 line.
-pub fn add_refusal(tally: &mut Tally)
-    ensures { tally.new ≡ refusal_added tally.old }
-{
-    tally[REFUSED] = wrapping_add_u32(tally[REFUSED], 1);
-}
+    // An 82 line.
+    pub fn add_refusal(&mut self)
+        ensures { self.new ≡ refusal_added self.old }
+    {
+        self.refused = self.refused.wrapping_add(1);
+    }
 
-// An 83 line.
-pub fn add_run(tally: &mut Tally, steps: u32, stop: u32)
-    ensures { tally.new ≡ run_added steps stop tally.old }
-{
-    tally[RUNS] = wrapping_add_u32(tally[RUNS], 1);
-    tally[STEPS] = wrapping_add_u32(tally[STEPS], steps);
-    if stop % 256 == REFUSED_STOP {
-        add_refusal(tally);
+    // An 83 line.
+    pub fn add_run(&mut self, steps: u32, stop: u32)
+        ensures { self.new ≡ run_added steps stop self.old }
+    {
+        self.runs = self.runs.wrapping_add(1);
+        self.steps = self.steps.wrapping_add(steps);
+        if stop % 256 == REFUSED_STOP {
+            self.add_refusal();
+        }
     }
 }

@@ -1,6 +1,7 @@
 // A line on standard error: what failed, and the system's message, without the number that std puts behind it.
 ghost use Rattle.std.specs.Prelude.{◌≤◌, length};
 
+use memchr::memmem;
 use std::fmt;
 use std::fmt::Write;
 use std::io::{Error, Print};
@@ -34,12 +35,7 @@ impl fmt::Write for Message {
 fn before_number(text: &[u8]) -> usize
     ensures { result ≤ length text.now }
 {
-    for i in 0..text.len() {
-        if text[i..].starts_with(NUMBER_BEGINS) {
-            return i;
-        }
-    }
-    text.len()
+    memmem::find(text, NUMBER_BEGINS).unwrap_or(text.len())
 }
 
 // A failure of standard error itself is passed over: there is nowhere left to report it.

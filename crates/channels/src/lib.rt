@@ -4,17 +4,14 @@
 mod failures;
 
 use crate::failures::report;
+use hex_digits::Output;
 use std::io::{Error, ErrorKind, Read, Write};
 use std::thread::sleep;
 use std::time::Duration;
 
-// What is there after a read.
-pub enum Input {
-    // The block is filled up to here.
-    Filled(usize),
-    Ended,
-    Failed,
-}
+// A call failed, and its failure was reported.
+#[derive(Clone, Copy, PartialEq, Eq, Debug)]
+pub struct Failed;
 
 const STANDARD_INPUT: &[u8] = b"standard input";
 
@@ -23,62 +20,52 @@ const STANDARD_OUTPUT: &[u8] = b"standard output";
 // How long a call that would have to wait is put off.
 const PAUSE_MILLISECONDS: u64 = 1;
 
-// Whether the call that failed is made again.
-fn again(rt: &HostRuntime, error: &Error) -> bool {
+// After a call that failed: whether it is made again.
+fn resume(rt: &HostRuntime, what: &[u8], error: &Error) -> Result<(), Failed> {
     match error.kind() {
         ErrorKind::WouldBlock => {
             sleep(rt, Duration::from_millis(PAUSE_MILLISECONDS));
-            true
+            Ok(())
         }
-        ErrorKind::Interrupted => true,
-        _ => false,
+        ErrorKind::Interrupted => Ok(()),
+        _ => {
+            report(rt, what, error);
+            Err(Failed)
+        }
     }
 }
 
-// Reads into a block behind its first bytes, as many as `end`.
-pub fn receive(rt: &HostRuntime, block: &mut [u8], end: usize) -> Input {
+// Reads into a block behind its first bytes, as many as `end`: up to where it is filled then, or None at the end of input.
+pub fn receive(rt: &HostRuntime, block: &mut [u8], end: usize) -> Result<Option<usize>, Failed> {
     for _ in 0..u64::MAX {
         // A full block, which no program hands on: what is kept is shorter.
         if block.len() <= end {
-            return Input::Failed;
+            return Err(Failed);
         }
         match rt.stdin().read(&mut block[end..]) {
-            Ok(0) => return Input::Ended,
-            Ok(got) => return Input::Filled(end + got),
-            Err(error) => {
-                if !again(rt, &error) {
-                    report(rt, STANDARD_INPUT, &error);
-                    return Input::Failed;
-                }
-            }
+            Ok(0) => return Ok(None),
+            Ok(got) => return Ok(Some(end + got)),
+            Err(error) => resume(rt, STANDARD_INPUT, &error)?,
         }
     }
-    Input::Failed
+    Err(Failed)
 }
 
-// Writes the first bytes of a buffer: whether all were taken.
-pub fn send(rt: &HostRuntime, out: &[u8], place: usize) -> bool {
-    let mut done = 0;
+// Writes what was printed. `write_all` would not wait.
+pub fn send(rt: &HostRuntime, output: &Output) -> Result<(), Failed> {
+    let mut left = output.buffer.get(..output.place).ok_or(Failed)?;
     for _ in 0..u64::MAX {
-        if place <= done {
-            return true;
+        if left.is_empty() {
+            return Ok(());
         }
-        if out.len() < place {
-            return false;
-        }
-        match rt.stdout().write(&out[done..place]) {
+        match rt.stdout().write(left) {
             Ok(0) => {
                 report(rt, STANDARD_OUTPUT, &Error::from(ErrorKind::WriteZero));
-                return false;
+                return Err(Failed);
             }
-            Ok(put) => done = done + put,
-            Err(error) => {
-                if !again(rt, &error) {
-                    report(rt, STANDARD_OUTPUT, &error);
-                    return false;
-                }
-            }
+            Ok(put) => left = &left[put..],
+            Err(error) => resume(rt, STANDARD_OUTPUT, &error)?,
         }
     }
-    false
+    Err(Failed)
 }

@@ -15,13 +15,8 @@ use Rattle.word.proofs.CaseLaws.{by_test, and_left, and_right}
 use Rattle.word.proofs.FieldLaws.{digits_pow}
 use Rattle.word.proofs.EveryLaws.{every, holds}
 use Rattle.hex_digits.specs.Digits.{is_decimal, is_letter, is_digit, all_digits, digit_of, number_at, digit_byte, digits}
-use Rattle.hex_digits.specs.Output.{Output, output, written, printed}
-use Rattle.hex_digits.proofs.OutputLaws.{set_before, fits, full, room_printed}
-
--- the last arm of a table of sixteen
-pub digit_last : (x : ℕ) → 15 ≤ x → x < 16 → 70 ≡ digit_byte x
-unfolding digit_byte
-digit_last x h g = let e : 15 ≡ x = omega arith in ap digit_byte e
+use Rattle.hex_digits.specs.Output.{written}
+use Rattle.hex_digits.proofs.OutputLaws.{set_before}
 
 -- ---- digits put into a buffer, the last one first
 
@@ -76,6 +71,21 @@ bytes_pass : every byte_test 7 0 ≡ true
 unfolding byte_test digit_of digit_byte
 bytes_pass = refl
 
+-- the table of the code
+abbrev pub table : List ℕ
+table = 48 ∷ 49 ∷ 50 ∷ 51 ∷ 52 ∷ 53 ∷ 54 ∷ 55 ∷ 56 ∷ 57 ∷ 65 ∷ 66 ∷ 67 ∷ 68 ∷ 69 ∷ 70 ∷ []
+
+table_test : ℕ → Bool
+table_test d = eqb (get_or table d 0) (digit_byte d)
+
+table_passes : every table_test 4 0 ≡ true
+unfolding table_test digit_byte
+table_passes = refl
+
+pub in_table : (x : ℕ) → get_or table (x % 16) 0 ≡ digit_byte (x % 16)
+unfolding table_test
+in_table x = eqb-true _ _ (holds table_test 4 0 (x % 16) zero-le (mod-lt x (omega arith)) table_passes)
+
 module _ (d : ℕ) (h : d < 16) where
   number_passes : (is_digit (digit_byte d) && eqb (digit_of (digit_byte d)) d) ≡ true
   unfolding number_test
@@ -125,20 +135,6 @@ length_digits (suc n) x = ap suc (length_digits n x)
 pub all_digits_law : (n x : ℕ) → all_digits (digits n x) ≡ true
 all_digits_law zero x = refl
 all_digits_law (suc n) x = rw (digit_is (x / 16 ^ n % 16) (mod-lt (x / 16 ^ n) (omega arith)), all_digits_law n x) refl
-
--- printed whole, or left out
-module _ (n v p : ℕ) (o : List ℕ) where
-  pub digits_in : (x : List ℕ) → p + n ≤ length o → x ≡ written o p (digits n v) → output x (p + n) ≡ printed (digits n v) (output o p)
-  digits_in x h e = fits (digits n v) o p x n (sym (length_digits n v)) h e
-
-  pub digits_out : length o < p + n → output o p ≡ printed (digits n v) (output o p)
-  digits_out h = full (digits n v) o p n (sym (length_digits n v)) h
-
--- what digits leave for which there is room
-pub put_in : (o x : List ℕ) (p n v r : ℕ) → p + n ≤ length o → output x r ≡ printed (digits n v) (output o p) → x ≡ written o p (digits n v)
-put_in o x p n v r h e =
-    let k : p + length (digits n v) ≤ length o = rw (length_digits n v) h in
-    ap (λ (z : Output). z.bytes) (e ∙ room_printed (digits n v) o p k)
 
 -- the first digit apart
 number_front : (n : ℕ) (s : List ℕ) (i : ℕ) → number_at (suc n) s i ≡ digit_of (get_or s i 0) * 16 ^ n + number_at n s (suc i)

@@ -1,14 +1,16 @@
 -- Texts put into a buffer one after the other.
 -- Assumes nothing.
 use mathlib.Core.Path.{◌≡◌, refl, sym, ap, ◌∙◌}
+use mathlib.Core.Bool.{Bool, true, false}
 use mathlib.Core.List.{List, [], ◌∷◌, ◌++◌, append_assoc, append-nil}
-use Prim.Native.Nat.{ℕ, suc, ◌+◌, ◌≤◌, ◌<◌}
+use Prim.Native.Nat.{ℕ, suc, ◌+◌, ◌-◌, ◌≤◌, ◌<◌}
 use native.Mathlib.Nat.{add_assoc, add-zero}
 use native.Mathlib.Omega.{arith}
-use lib.ListN.{length, take, set, length-append, length-set}
-use lib.Seq.{set_comm, take-suc-set}
+use lib.ListN.{length, take, drop, set, length-append, length-set, take-append-drop}
+use lib.Seq.{set_comm, take-suc-set, drop-set-lt, drop-drop}
 use lib.Dec.{leb}
-use borrow.Author.Tests.{le-leb, lt-leb}
+use borrow.Author.Tests.{le-leb, lt-leb, leb-true}
+use borrow.Rule.Slice.PartMut.{put_mid}
 use Rattle.word.proofs.CaseLaws.{by_test}
 use Rattle.hex_digits.specs.Output.{Output, written, output, printed}
 
@@ -54,6 +56,18 @@ module _ (t o : List ℕ) (p : ℕ) where
   pub room_printed : p + length t ≤ length o → printed t (output o p) ≡ output (written o p t) (p + length t)
   room_printed h = sym (fits (written o p t) (length t) refl h refl)
 
+-- a text printed after another, where there is room for both
+pub on_printed : (a b : List ℕ) (o x y : Output) (n m : ℕ) → n ≡ length a → m ≡ length b → o.place + n + m ≤ length o.bytes
+    → x ≡ printed a o → y ≡ printed b x → y ≡ printed (a ++ b) o
+on_printed a b o x y n m e f h g i =
+    let q : x ≡ output (written o.bytes o.place a) (o.place + length a) =
+    g ∙ room_printed a o.bytes o.place (omega (arith, e, f, h)) in
+    i
+    ∙ ap (printed b) q
+    ∙ room_printed b (written o.bytes o.place a) (o.place + length a) (rw (length_written a o.bytes o.place) (omega (arith, e, f, h)))
+    ∙ on_output a b o.bytes o.place
+    ∙ sym (room_printed (a ++ b) o.bytes o.place (rw (length-append a b) (omega (arith, e, f, h))))
+
 -- no text is printed as it is
 pub printed_none : (o : Output) → printed [] o ≡ o
 unfolding printed
@@ -63,6 +77,38 @@ pub length_printed : (t o : List ℕ) (p : ℕ) → length (printed t (output o 
 unfolding printed
 length_printed t o p =
     by_test (leb (p + length t) (length o)) (λ e. rw e (length_written t o p)) (λ e. rw e refl)
+
+-- ---- a text, by what the code asked: whether it has room
+
+module _ (t o : List ℕ) (p n : ℕ) (r : Bool) (e : n ≡ length t) (g : r ≡ leb (p + n) (length o)) where
+  pub put_whole : (x : List ℕ) → r ≡ true → x ≡ written o p t → output x (p + n) ≡ printed t (output o p)
+  unfolding printed
+  put_whole x h f = rw (sym e, sym g ∙ h) (ap (λ (y : List ℕ). output y (p + n)) f)
+
+  pub left_out : r ≡ false → output o p ≡ printed t (output o p)
+  unfolding printed
+  left_out h = rw (sym e, sym g ∙ h) refl
+
+-- written at once
+written_whole : (t o : List ℕ) (p : ℕ) → p + length t ≤ length o → written o p t ≡ take p o ++ (t ++ drop (p + length t) o)
+written_whole [] o p h = rw add-zero (sym (take-append-drop p o))
+written_whole (b ∷ t) o p h =
+    let e : p + suc (length t) ≡ suc p + length t = omega arith in
+    rw e
+    (written_whole t (set o p b) (suc p) (rw (length-set o p b) (omega arith))
+    ∙ (λ i. take-suc-set o p b (omega arith) i ++ (t ++ drop-set-lt (suc p + length t) o p b (omega arith) i))
+    ∙ append_assoc (take p o) (b ∷ []) (t ++ drop (suc p + length t) o))
+
+pub copied : (t o y x : List ℕ) (p : ℕ) (r : Bool) → r ≡ leb (p + length t) (length o) → r ≡ true → y ≡ t
+    → x ≡ put_mid p (p + length t - p) o y → output x (p + length t) ≡ printed t (output o p)
+copied t o y x p r g h e f =
+    let n : p + length t - p ≡ length t = omega arith in
+    let k : p + length t ≤ length o = leb-true _ _ (sym g ∙ h) in
+    put_whole t o p (length t) r refl g x h
+    (f
+    ∙ (λ i. put_mid p (n i) o (e i))
+    ∙ ap (λ (z : List ℕ). take p o ++ (t ++ z)) (drop-drop (length t) p o)
+    ∙ sym (written_whole t o p k))
 
 -- ---- what is shown of a buffer
 

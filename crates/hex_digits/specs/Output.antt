@@ -1,6 +1,7 @@
 -- Output: a lent buffer and the place of the next byte.
 -- Assumes nothing.
 use Rattle.std.specs.Prelude.{ℕ, suc, ◌+◌, Bool, cond, List, [], ◌∷◌, length, set, leb}
+use Rattle.hex_digits.specs.declared.Output.{Output as LentOutput}
 
 abbrev pub newline : ℕ
 newline = 10
@@ -23,3 +24,7 @@ has_room t o = leb (o.place + length t) (length o.bytes)
 
 unfoldable pub printed : List ℕ → Output → Output
 printed t o = cond (has_room t o) (output (written o.bytes o.place t) (o.place + length t)) o
+
+-- what is lent and printed to
+abbrev pub contents : LentOutput → Output
+contents o = output o.buffer.now o.place

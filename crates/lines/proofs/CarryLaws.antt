@@ -1,15 +1,14 @@
 -- Part of a block at its front: the bytes copied so far, and those still where they were.
 -- Assumes nothing.
-use mathlib.Core.Path.{◌≡◌, refl, sym, ap, ◌∙◌}
-use mathlib.Core.List.{List, [], ◌∷◌, ◌++◌}
-use Prim.Native.Nat.{ℕ, zero, suc, ◌+◌, ◌-◌, ◌≤◌, ◌<◌}
-use native.Mathlib.Nat.{add_comm}
-use native.Mathlib.Numerals.{add-one}
+use mathlib.Core.Path.{◌≡◌, sym, ap, ◌∙◌}
+use mathlib.Core.List.{List, [], ◌∷◌}
+use Prim.Native.Nat.{ℕ, zero, suc, min, ◌+◌, ◌-◌, ◌≤◌, ◌<◌}
 use native.Mathlib.Omega.{arith}
-use lib.ListN.{length, get_or, set, take, drop, length-set, length-drop, drop_of_length-le}
-use lib.Seq.{take-suc, take-suc-set, drop-set-lt, drop-drop, get_or-drop, take-take, take_all, take-nil, length-take-le}
+use lib.ListN.{length, take, drop, length-drop, drop_of_length-le}
+use lib.Seq.{take-take, take_all, take-nil, length-take-le, paste}
 use lib.Dec.{ltb}
 use borrow.Author.Tests.{ltb-true, ltb-false}
+use Rattle.std.proofs.lemmas.List.{take_at}
 use Rattle.word.proofs.CaseLaws.{by_test}
 
 -- ---- the part: from `from` to `end`, both moved into the block
@@ -25,6 +24,9 @@ drop_take (suc f) (suc e) (x ∷ b) h =
 -- the lesser of two numbers
 abbrev pub Least : ℕ → ℕ → ℕ → Type 0
 Least a b r = (r ≤ a) × (r ≤ b) × (r < a → r ≡ b)
+
+pub least_is : (a b r : ℕ) → r ≡ min a b → Least a b r
+least_is a b r e = rw e (omega arith, omega arith, λ h. omega (arith, h))
 
 pub least_take : (a : ℕ) (b : List ℕ) (r : ℕ) → Least a (length b) r → take r b ≡ take a b
 least_take a b r l =
@@ -59,58 +61,9 @@ module _ (b : List ℕ) (from end e f : ℕ) (le : Least end (length b) e) (lf :
   pub part_length : length (take (e - f) (drop f b)) ≡ e - f
   part_length = length-take-le (e - f) (drop f b) (rw (length-drop f b) (omega (arith, le.1)))
 
--- ---- copied to the front
+-- ---- moved to the front: all that is kept, at most so many of the part
 
-pub record Carrying (s₀ : List ℕ) (from left : ℕ) (s : List ℕ) (k : ℕ) : Type 0 where
-  pub upto : k ≤ left
-  pub long : length s ≡ length s₀
-  pub front : take k s ≡ take k (drop from s₀)
-  pub back : drop k s ≡ drop k s₀
-  pub within : from + left ≤ length s₀
-
-one_more : (k : ℕ) (l : List ℕ) → drop (suc k) l ≡ drop 1 (drop k l)
-one_more k l = ap (λ (i : ℕ). drop i l) (sym (add-one k)) ∙ sym (drop-drop 1 k l)
-
-module _ (s₀ : List ℕ) (from left : ℕ) where
-  pub carrying_none : from + left ≤ length s₀ → Carrying s₀ from left s₀ 0
-  carrying_none w = record { upto = omega arith; long = refl; front = refl; back = refl; within = w }
-
-  module _ (s : List ℕ) (k : ℕ) (r : Carrying s₀ from left s k) where
-    -- the byte to copy is still where it was
-    same : get_or s (from + k) 0 ≡ get_or s₀ (from + k) 0
-    same =
-        ap (λ (i : ℕ). get_or s i 0) (add_comm from k)
-        ∙ sym (get_or-drop k s from 0)
-        ∙ ap (λ (l : List ℕ). get_or l from 0) r.back
-        ∙ get_or-drop k s₀ from 0
-        ∙ ap (λ (i : ℕ). get_or s₀ i 0) (add_comm k from)
-
-    copied : k < left → take (suc k) (set s k (get_or s (from + k) 0)) ≡ take (suc k) (drop from s₀)
-    copied h =
-        let a : k < length s = omega (arith, r.long, r.within) in
-        let b : k < length (drop from s₀) = rw (length-drop from s₀) (omega (arith, r.within)) in
-        take-suc-set s k (get_or s (from + k) 0) a
-        ∙ (λ i. r.front i ++ ((same ∙ sym (get_or-drop from s₀ k 0)) i ∷ []))
-        ∙ sym (take-suc (drop from s₀) k 0 b)
-
-    kept : drop (suc k) (set s k (get_or s (from + k) 0)) ≡ drop (suc k) s₀
-    kept = drop-set-lt (suc k) s k (get_or s (from + k) 0) (omega arith) ∙ one_more k s ∙ ap (drop 1) r.back ∙ sym (one_more k s₀)
-
-    pub carrying_more : k < left → Carrying s₀ from left (set s k (get_or s (from + k) 0)) (k + 1)
-    carrying_more h =
-        record {
-          upto = omega arith;
-          long = length-set s k (get_or s (from + k) 0) ∙ r.long;
-          front = rw add-one (copied h);
-          back = rw add-one kept;
-          within = r.within;
-        }
-
--- all that is kept, at most so many of the part
 module _ (b : List ℕ) (from end most e f left : ℕ) (le : Least end (length b) e) (lf : Least from e f) (ll : Least (e - f) most left) where
-  pub carrying_starts : Carrying b f left b 0
-  carrying_starts = carrying_none b f left (omega (arith, le.1, lf.1, ll.0))
-
   -- the lesser of both is either
   fewer : take left (drop f b) ≡ take most (take (e - f) (drop f b))
   fewer =
@@ -121,7 +74,11 @@ module _ (b : List ℕ) (from end most e f left : ℕ) (le : Least end (length b
       ap (λ (i : ℕ). take i (drop f b)) g
       ∙ sym (take_all most (take (e - f) (drop f b)) (rw (part_length b from end e f le lf) (omega (arith, ll.1, g)))))
 
-  pub carrying_all : (s : List ℕ) (k : ℕ) → Carrying b f left s k → left ≤ k → take k s ≡ take most (drop from (take end b))
-  carrying_all s k r h =
-      let g : k ≡ left = omega (arith, r.upto) in
-      r.front ∙ ap (λ (i : ℕ). take i (drop f b)) g ∙ fewer ∙ ap (take most) (part b from end e f le lf)
+  pub carried : (s : List ℕ) → s ≡ paste b 0 (drop f b) (f + left - f) → take left s ≡ take most (drop from (take end b))
+  carried s h =
+      let n : f + left - f ≡ left = omega arith in
+      let w : length (take left (drop f b)) ≡ left = length-take-le left (drop f b) (rw (length-drop f b) (omega (arith, ll.0, lf.1, le.1))) in
+      ap (take left) (h ∙ ap (λ (k : ℕ). paste b 0 (drop f b) k) n)
+      ∙ take_at (take left (drop f b)) (drop (0 + left) b) left w
+      ∙ fewer
+      ∙ ap (take most) (part b from end e f le lf)

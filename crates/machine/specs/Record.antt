@@ -1,10 +1,11 @@
 -- The machine record of the code, as the bank and the cache of the definitions; the start; a register read.
 -- Assumes nothing.
-use Rattle.std.specs.Prelude.{ℕ, zero, suc, ◌-◌, Bool, cond, List, [], ◌∷◌, ◌++◌, replicate, eqb}
+use Rattle.std.specs.Prelude.{ℕ, zero, suc, ◌-◌, Bool, cond, List, [], ◌∷◌, ◌++◌, replicate, eqb, Result, Ok, Err}
 use Rattle.machine.specs.declared.Machine.{Machine}
-use Rattle.machine.specs.declared.Reading.{Reading}
 use Rattle.machine.specs.Registers.{Bank, word, trace_due, timer1_due, timer2_due, nmi_taken}
-use Rattle.machine.specs.Registers.{register_refused, is_register_place}
+use Rattle.machine.specs.Registers.{is_register_place}
+use Rattle.refusals.specs.declared.Refusal.{Refusal}
+use Rattle.refusals.specs.declared.Refusal.TheVariants.{Register}
 use Rattle.machine.specs.Cache.{Cache, quads_of, flat_of}
 use Rattle.machine.specs.Status.{Cpu, cpu}
 
@@ -47,9 +48,6 @@ zero_cache = replicate 16 (replicate 4 0)
 
 -- ---- a register read
 
-abbrev pub reading : ℕ → ℕ → Reading
-reading r v = record { refusal = r; value = v }
-
--- the register at place p of Table 1-1; a refusal has the value 0
-unfoldable pub reading_of : Bank → ℕ → Reading
-reading_of b p = cond (is_register_place p) (reading 0 (word b (p - 1))) (reading register_refused 0)
+-- the register at place p of Table 1-1, or the refusal whose number is `register_refused`
+unfoldable pub reading_of : Bank → ℕ → Result ℕ Refusal
+reading_of b p = cond (is_register_place p) (Ok (word b (p - 1))) (Err Register)

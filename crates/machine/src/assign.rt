@@ -1,14 +1,13 @@
 // Registers of a bank by their place in Table 1-1: set by frame 01, and read.
 ghost use Rattle.std.specs.Prelude.{◌≡◌, ◌<◌};
-ghost use Rattle.machine.specs.Registers.{settable, assigned, setting, set_register};
+ghost use Rattle.machine.specs.Registers.{is_register_place, settable, assigned, setting, set_register};
 ghost use Rattle.machine.specs.Record.{reading_of};
+ghost use Rattle.refusals.specs.Numbers.{refusal_of};
 
+use crate::Bank;
 use crate::places::{ID_PLACE, MSP, MSP_PLACE, REGISTERS, SP, SP_PLACE};
 use crate::registers::{clean, stack_held};
-use crate::{Bank, Reading};
-
-// The refusal of a register.
-const REGISTER_REFUSED: u32 = 2;
+use refusals::Refusal;
 
 // Whether the register at place k of the bank takes a word: no reserved bit, and MSP not away from SP.
 fn takes(b: &Bank, k: u32, v: u32) -> bool
@@ -34,42 +33,36 @@ fn assign(b: &mut Bank, k: u32, v: u32)
     b[i] = v;
 }
 
-// The register at a place of Table 1-1 set to a word: 0, or refusal 2 and the bank as it was.
-pub fn set_register(b: &mut Bank, place: u32, value: u32) -> u32
-    ensures { setting result b.new ≡ set_register b.old place value }
+// Whether a place is a register's; what is due is none.
+fn is_register(place: u32) -> bool
+    ensures { result ≡ is_register_place place }
 {
-    if place < 1 {
-        return REGISTER_REFUSED;
-    }
-    if REGISTERS < place {
-        return REGISTER_REFUSED;
-    }
-    if takes(b, place - 1, value) {
-        assign(b, place - 1, value);
-        return 0;
-    }
-    REGISTER_REFUSED
+    (1 <= place) & (place <= REGISTERS)
 }
 
-// The register at a place of Table 1-1, or refusal 2.
-pub fn read_register(b: &Bank, place: u32) -> Reading
+// The register at a place of Table 1-1 set to a word, or refused and the bank as it was.
+#[tactic(auto, unfolding(crate::specs::Registers::set_register))]
+pub fn set_register(b: &mut Bank, place: u32, value: u32) -> Result<(), Refusal>
+    ensures { setting (refusal_of result) b.new ≡ set_register b.old place value }
+{
+    if !is_register(place) {
+        return Err(Refusal::Register);
+    }
+    if !takes(b, place - 1, value) {
+        return Err(Refusal::Register);
+    }
+    assign(b, place - 1, value);
+    Ok(())
+}
+
+// The register at a place of Table 1-1.
+#[tactic(auto, unfolding(crate::specs::Record::reading_of))]
+pub fn read_register(b: &Bank, place: u32) -> Result<u32, Refusal>
     ensures { result ≡ reading_of b.now place }
 {
-    if place < 1 {
-        return Reading {
-            refusal: REGISTER_REFUSED,
-            value: 0,
-        };
-    }
-    if REGISTERS < place {
-        return Reading {
-            refusal: REGISTER_REFUSED,
-            value: 0,
-        };
+    if !is_register(place) {
+        return Err(Refusal::Register);
     }
     let i = (place - 1) as usize;
-    Reading {
-        refusal: 0,
-        value: b[i],
-    }
+    Ok(b[i])
 }

@@ -24,12 +24,5 @@ pub struct Machine {
     pub nmi_taken: bool,
 }
 
-// A register read: 0 and its word, or the refusal and 0.
-#[derive(Clone, Copy)]
-pub struct Reading {
-    pub refusal: u32,
-    pub value: u32,
-}
-
 // The bytes that the stack cache holds.
 pub const STACK_CACHE_BYTES: u32 = 256;

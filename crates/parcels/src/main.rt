@@ -4,6 +4,7 @@ ghost use Rattle.std.specs.Prelude.{◌≤◌, length};
 ghost use Rattle.parcels_listing.specs.Listing.{line_size};
 
 use channels::send;
+use hex_digits::Output;
 use parcels_listing::{PARCEL_COUNT, put_lines};
 
 const BLOCK: usize = 32768;
@@ -15,7 +16,11 @@ fn print_list(rt: &HostRuntime, out: &mut [u8])
     let mut next = 0;
     while next < PARCEL_COUNT {
         let s = put_lines(next, out);
-        if !send(rt, out, s.place) {
+        let printed = Output {
+            buffer: &mut *out,
+            place: s.place,
+        };
+        if send(rt, &printed).is_err() {
             return;
         }
         next = s.next;

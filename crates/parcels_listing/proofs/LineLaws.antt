@@ -4,13 +4,12 @@ use Prim.Native.Nat.{ℕ, suc, ◌+◌, ◌*◌, ◌≤◌, ◌<◌}
 use mathlib.Core.Path.{◌≡◌, refl, sym, ap, ◌∙◌}
 use mathlib.Core.List.{List, [], ◌∷◌, ◌++◌, append_assoc}
 use native.Mathlib.Omega.{arith}
-use lib.ListN.{length, get_or, set, take, drop, length-append}
+use lib.ListN.{length, get_or, take, drop, length-append}
 use lib.Seq.{split_at, length-take-le}
 use Rattle.isa.specs.Fields.{short_opcode, short_operands}
 use Rattle.hex_digits.specs.Digits.{digits}
-use Rattle.hex_digits.specs.Output.{newline, output, written, printed}
-use Rattle.hex_digits.proofs.OutputLaws.{length_written, on}
-use Rattle.hex_digits.proofs.DigitLaws.{put_in}
+use Rattle.hex_digits.specs.Output.{Output, newline, output, written, printed}
+use Rattle.hex_digits.proofs.OutputLaws.{on_printed, room_printed}
 use Rattle.parcels_listing.specs.Listing.{line_size, parcel_line, parcel_lines}
 
 -- ---- lines one after the other
@@ -41,19 +40,14 @@ first_lines ps k h = length_lines (take k ps) ∙ ap (λ (n : ℕ). n * line_siz
 
 -- ---- the digits of a line put one after the other
 
-pub line_put : (o w x y : List ℕ) (p q a b c : ℕ) (f g : ℕ) → p + line_size ≤ length o → output w a ≡ printed (digits 4 q) (output o p)
-    → f ≡ short_opcode q → output x b ≡ printed (digits 2 f) (output w (p + 4))
-    → g ≡ short_operands q → output y c ≡ printed (digits 3 g) (output x (p + 6))
-    → set y (p + 9) newline ≡ written o p (parcel_line q)
-line_put o w x y p q a b c f g h i d j k l =
+pub line_put : (o : List ℕ) (p q : ℕ) (w x y z : Output) (f g : ℕ) → p + line_size ≤ length o → w ≡ printed (digits 4 q) (output o p)
+    → f ≡ short_opcode q → x ≡ printed (digits 2 f) w → g ≡ short_operands q → y ≡ printed (digits 3 g) x
+    → z ≡ printed (newline ∷ []) y → z.bytes ≡ written o p (parcel_line q)
+line_put o p q w x y z f g h i d j k l m =
     let d4 = digits 4 q in
     let d2 = digits 2 (short_opcode q) in
     let d3 = digits 3 (short_operands q) in
-    let ew : w ≡ written o p d4 = put_in o w p 4 q a (omega arith) i in
-    let lw : length w ≡ length o = ap length ew ∙ length_written d4 o p in
-    let ex : x ≡ written w (p + 4) d2 = put_in w x (p + 4) 2 f b (omega arith) j ∙ rw d refl in
-    let lx : length x ≡ length w = ap length ex ∙ length_written d2 w (p + 4) in
-    let ey : y ≡ written x (p + 6) d3 = put_in x y (p + 6) 3 g c (omega arith) l ∙ rw k refl in
-    let s = on d4 d2 o w x p (p + 4) ew ex refl in
-    let t = on (d4 ++ d2) d3 o x y p (p + 6) s ey refl in
-    on (d4 ++ d2 ++ d3) (newline ∷ []) o y (set y (p + 9) newline) p (p + 9) t refl refl
+    let s = on_printed d4 d2 (output o p) w x 4 2 refl refl (omega (arith, h)) i (j ∙ rw d refl) in
+    let s = on_printed (d4 ++ d2) d3 (output o p) x y 6 3 refl refl (omega (arith, h)) s (l ∙ rw k refl) in
+    let s = on_printed (d4 ++ d2 ++ d3) (newline ∷ []) (output o p) y z 9 1 refl refl (omega (arith, h)) s m in
+    ap (λ (e : Output). e.bytes) (s ∙ room_printed (parcel_line q) o p h)

@@ -8,7 +8,7 @@ ghost use Rattle.parcels_listing.specs.Portions.{portion, portion_of};
 
 use decode::decode;
 use decode::fields::{short_opcode, short_operands};
-use hex_digits::put_digits;
+use hex_digits::Output;
 use isa::Decoded;
 use word::fields::form_bits;
 
@@ -50,14 +50,19 @@ pub fn on_list(p: u16) -> bool
 }
 
 // The line of a parcel.
+#[tactic(auto, using(crate::proofs::LineLaws::line_put))]
 fn put_line(out: &mut [u8], at: usize, p: u32)
     requires { at + line_size ≤ length out.old }
     ensures { out.new ≡ written out.old at (parcel_line p) }
 {
-    put_digits(out, at, 4, p);
-    put_digits(out, at + 4, 2, short_opcode(p));
-    put_digits(out, at + 6, 3, short_operands(p));
-    out[at + 9] = b'\n';
+    let mut line = Output {
+        buffer: out,
+        place: at,
+    };
+    line.put_digits(4, p);
+    line.put_digits(2, short_opcode(p));
+    line.put_digits(3, short_operands(p));
+    line.put_byte(b'\n');
 }
 
 // The lines from a parcel on, as many as there is room for; they fill the buffer from its start.

@@ -1,8 +1,8 @@
 -- A block converted line by line: what is left of it gives what the whole gives.
 -- Assumes nothing.
-use Rattle.std.proofs.Common.{◌≡◌, ℕ, suc, ◌+◌, ◌-◌, ◌%◌, ◌^◌, ◌<◌, ◌≤◌, Bool, true, false, cond, List, [], ◌∷◌, length, take, drop, sym, refl, ap, ◌∙◌, arith}
+use Rattle.std.proofs.Common.{◌≡◌, ℕ, suc, ◌+◌, ◌-◌, ◌<◌, ◌≤◌, true, false, cond, List, [], ◌∷◌, length, take, drop, sym, refl, ap, ◌∙◌, arith}
 use Rattle.hex_digits.specs.Output.{Output}
-use Rattle.lines.specs.Texts.{next, newline_at, ended_lines, size_of}
+use Rattle.lines.specs.Texts.{newline_at, ended_lines, size_of}
 use Rattle.lines.proofs.SearchLaws.{ended_none, none_from, first_from, width_from}
 use Rattle.records_conversion.specs.declared.Way.{Way}
 use Rattle.records_conversion.specs.Conversion.{converted_by}
@@ -20,9 +20,6 @@ pub record Converting (w : Way) (t : List ℕ) (p₀ : Progress) (o : Output) (l
   pub ends : to ≡ from + newline_at (drop from t)
   pub done : lines_done w (ended_lines (drop from t)) (progress o last false) ≡ lines_done w (ended_lines t) p₀
   pub place : from + size_of (ended_lines (drop from t)) ≡ size_of (ended_lines t)
-
-pub converting_none : (w : Way) (t : List ℕ) (o : Output) (n to : ℕ) → to ≡ 0 + newline_at (drop 0 t) → Converting w t (progress o n false) o n 0 to
-converting_none w t o n to e = record { upto = omega arith; ends = e; done = refl; place = omega arith }
 
 module _ (w : Way) (t : List ℕ) (p₀ : Progress) (o : Output) (last from to : ℕ) (r : Converting w t p₀ o last from to) where
   -- no line is left
@@ -52,25 +49,22 @@ module _ (w : Way) (t : List ℕ) (p₀ : Progress) (o : Output) (last from to :
         ∙ sym (ap (λ (l : List (List ℕ)). lines_done w l (progress o last false)) first)
         ∙ r.done
 
-    module _ (o' : Output) (b : Bool) (e : progress o' (next last) b ≡ line_done (converted_by w line) (progress o last false)) where
-      pub converting_refused : (i : ℕ) → b ≡ true → i ≡ (last + 1) % 2 ^ 32 → block_done (progress o' i true) (length t) ≡ block_from w t p₀
-      converting_refused i g j =
+    module _ (o' : Output) (i : ℕ) where
+      pub converting_refused : progress o' i true ≡ line_done (converted_by w line) (progress o last false)
+          → block_done (progress o' i true) (length t) ≡ block_from w t p₀
+      converting_refused e =
           let p : progress o' i true ≡ lines_done w (ended_lines t) p₀ =
-          (λ k. progress o' (j k) (sym g k))
-          ∙ sym (nothing_more w (ended_lines (drop (to + 1) t)) (progress o' (next last) b) g)
-          ∙ next_done (progress o' (next last) b) e in
+          sym (nothing_more w (ended_lines (drop (to + 1) t)) (progress o' i true) refl) ∙ next_done (progress o' i true) e in
           (λ k. block_done (p k) (cond (p k).over (length t) (size_of (ended_lines t))))
 
-      pub converting_more : (i to' : ℕ) → b ≡ false → i ≡ (last + 1) % 2 ^ 32 → to' ≡ to + 1 + newline_at (drop (to + 1) t)
-          → Converting w t p₀ o' i (to + 1) to'
+      pub converting_more : progress o' i false ≡ line_done (converted_by w line) (progress o last false)
+          → (to' : ℕ) → to' ≡ to + 1 + newline_at (drop (to + 1) t) → Converting w t p₀ o' i (to + 1) to'
       unfolding size_of
-      converting_more i to' g j k =
+      converting_more e to' k =
           record {
             upto = omega arith;
             ends = k;
-            done =
-                ap (lines_done w (ended_lines (drop (to + 1) t))) (λ x. progress o' (j x) (sym g x))
-                ∙ next_done (progress o' (next last) b) e;
+            done = next_done (progress o' i false) e;
             place =
                 let s : size_of (ended_lines (drop from t)) ≡ suc (length line) + size_of (ended_lines (drop (to + 1) t)) = ap size_of first in
                 omega (arith, r.place, s, width_from t from to r.ends h, r.ends);

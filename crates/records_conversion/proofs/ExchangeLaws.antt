@@ -1,33 +1,27 @@
--- An exchange of the loop, and the end of input, as the code makes them.
+-- The end of input, as the code meets it.
 -- Assumes nothing.
-use Rattle.std.proofs.Common.{◌≡◌, ℕ, ◌<◌, Bool, false, List, [], ◌∷◌, length, take, drop, sym, refl, ap, ◌∙◌, arith, length-take-le}
+use Rattle.std.proofs.Common.{◌≡◌, ℕ, ◌<◌, ◌≤◌, Bool, false, List, [], ◌∷◌, length, take, sym, refl, ap, ◌∙◌, arith, length-take-le}
 use Rattle.hex_digits.specs.Output.{Output}
-use Rattle.lines.specs.Texts.{next, last_line}
+use Rattle.lines.specs.Texts.{last_line}
 use Rattle.lines.proofs.CarryLaws.{Least, least_take}
 use Rattle.records_conversion.specs.declared.Way.{Way}
 use Rattle.records_conversion.specs.Conversion.{converted_by}
-use Rattle.records_conversion.specs.Loop.{Progress, progress, line_done, lines_done, BlockDone, block_done, block_from, exchange_done, exchange_from}
+use Rattle.records_conversion.specs.Loop.{Progress, progress, line_done, lines_done}
 
 -- e is `end`, moved into the block
 module _ (w : Way) (b : List ℕ) (end e : ℕ) (le : Least end (length b) e) where
-  pub exchange_is : (p p₀ : Progress) (r k : ℕ) (c : List ℕ) → block_done p r ≡ block_from w (take e b) p₀
-      → take k c ≡ take 515 (drop r (take e b)) → exchange_done p (take k c) ≡ exchange_from w (take end b) p₀
-  exchange_is p p₀ r k c h g =
-      (λ i. exchange_done (h i).progress ((g ∙ ap (λ (x : BlockDone). take 515 (drop x.rest (take e b))) h) i))
-      ∙ ap (λ (t : List ℕ). exchange_from w t p₀) (least_take end b e le)
-
-  -- at the end of input
-  pub none_left : (o : Output) (n : ℕ) → e ≡ 0 → o ≡ (lines_done w (last_line (take end b)) (progress o n false)).output
+  pub none_left : (o : Output) (n : ℕ) → e ≤ 0 → o ≡ (lines_done w (last_line (take end b)) (progress o n false)).output
   unfolding lines_done
   none_left o n h =
-      let g : take end b ≡ [] = sym (least_take end b e le) ∙ ap (λ (k : ℕ). take k b) h in
+      let z : e ≡ 0 = omega arith in
+      let g : take end b ≡ [] = sym (least_take end b e le) ∙ ap (λ (k : ℕ). take k b) z in
       rw g refl
 
-  pub one_left : (o o' : Output) (n : ℕ) (v : Bool) → (e ≡ 0 → ⊥)
-      → progress o' (next n) v ≡ line_done (converted_by w (take e b)) (progress o n false)
+  pub one_left : (o o' : Output) (n m : ℕ) (v : Bool) → 0 < e
+      → progress o' m v ≡ line_done (converted_by w (take e b)) (progress o n false)
       → o' ≡ (lines_done w (last_line (take end b)) (progress o n false)).output
   unfolding lines_done
-  one_left o o' n v h g =
+  one_left o o' n m v h g =
       ap (λ (p : Progress). p.output) (g ∙ go (take e b) (rw (length-take-le e b le.1) (omega (arith, h))))
       ∙ ap (λ (t : List ℕ). (lines_done w (last_line t) (progress o n false)).output) (least_take end b e le)
     where

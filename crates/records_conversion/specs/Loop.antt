@@ -1,7 +1,9 @@
 -- The loop of the programs that convert: it reads, converts the lines that end, writes what they give, and keeps the rest.
 -- Assumes nothing.
-use Rattle.std.specs.Prelude.{ℕ, ◌+◌, ◌*◌, Bool, true, false, cond, List, [], ◌∷◌, length, take, drop, ◌==◌}
-use Rattle.hex_digits.specs.Output.{Output, printed}
+use Rattle.std.specs.Prelude.{ℕ, ◌+◌, ◌*◌, Bool, true, false, cond, List, [], ◌∷◌, length, take, drop, ◌==◌, Result, Ok, Err}
+use Rattle.refusals.specs.declared.Refusal.{Refusal}
+use Rattle.hex_digits.specs.Output.{Output, output, printed}
+use Rattle.hex_digits.specs.declared.Output.{Output as LentOutput}
 use Rattle.lines.specs.Texts.{lines_text, next, ended_lines, size_of}
 use Rattle.board_lines.specs.Answers.{refused_line}
 use Rattle.records_lines.specs.Conversions.{LineConverted}
@@ -43,6 +45,11 @@ block_done p r = record { progress = p; rest = r }
 abbrev pub block_from : Way → List ℕ → Progress → BlockDone
 block_from w t p = block_done (lines_done w (ended_lines t) p) (cond (lines_done w (ended_lines t) p).over (length t) (size_of (ended_lines t)))
 
+-- where the rest begins, as the code answers
+abbrev pub rest_by : List ℕ → Result ℕ Refusal → ℕ
+rest_by t (Ok r) = r
+rest_by t (Err r) = length t
+
 -- ---- an exchange of the loop
 
 -- no record and no frame has as many bytes, so an unended line that is cut there stays refused
@@ -56,6 +63,10 @@ pub record ExchangeDone : Type 0 where
 abbrev pub exchange_done : Progress → List ℕ → ExchangeDone
 exchange_done p t = record { progress = p; kept = t }
 
+-- what is lent, to be filled from its start
+abbrev pub from_start : LentOutput → Output
+from_start o = output o.buffer.now 0
+
 -- on the bytes that are there
 abbrev pub exchange_from : Way → List ℕ → Progress → ExchangeDone
 exchange_from w t p = exchange_done (block_from w t p).progress (take most_kept (drop (block_from w t p).rest t))
@@ -67,4 +78,4 @@ room_needed n = 2 * n + 13
 
 -- before the first of them: nothing is there, and no line has been converted
 abbrev pub conversion_start : ConversionState
-conversion_start = record { end = 0; last = 0; place = 0; over = false }
+conversion_start = record { end = 0; last = 0 }

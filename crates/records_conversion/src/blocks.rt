@@ -1,76 +1,67 @@
 // A block of input: each line that ends in it converted, in order, up to the first that is refused.
-ghost use Rattle.std.specs.Prelude.{◌≡◌, false};
-ghost use Rattle.hex_digits.specs.Output.{output};
-ghost use Rattle.lines.specs.Texts.{next};
+ghost use Rattle.std.specs.Prelude.{◌≡◌, false, is_err};
+ghost use Rattle.refusals.specs.Numbers.{refusal_of};
+ghost use Rattle.hex_digits.specs.Output.{contents};
 ghost use Rattle.records_lines.specs.Conversions.{line_output, output_of};
 ghost use Rattle.records_conversion.specs.Conversion.{converted_by};
-ghost use Rattle.records_conversion.specs.Loop.{progress, line_done, block_done, block_from};
+ghost use Rattle.records_conversion.specs.Loop.{progress, line_done, block_done, block_from, rest_by};
 
-use crate::{BlockEnd, LineEnd, Way};
+use crate::Way;
 use board_lines::answers::put_refusal;
+use hex_digits::Output;
 use lines::newline_from;
-use records_lines::LineConversion;
 use records_lines::frames::convert_frame;
 use records_lines::records::convert_record;
-use std::num::wrapping_add_u32;
+use refusals::Refusal;
 
 // Either way.
-fn convert_either(way: Way, line: &[u8], out: &mut [u8], at: usize) -> LineConversion
-    ensures { line_output result.refusal (output out.new result.place)
-        ≡ output_of (converted_by way line.now) (output out.old at) }
+fn convert_either(way: Way, line: &[u8], output: &mut Output) -> Result<(), Refusal>
+    ensures lent { output.new.buffer.ghost_name ≡ output.old.buffer.ghost_name }
+    ensures text { line_output (refusal_of result) (contents output.new)
+        ≡ output_of (converted_by way line.now) (contents output.old) }
 {
     match way {
-        Way::In => convert_record(line, out, at),
-        Way::Out => convert_frame(line, out, at),
+        Way::In => convert_record(line, output),
+        Way::Out => convert_frame(line, output),
     }
 }
 
-// The line after line `last`: what it gives, or the line of its refusal, which ends the work.
-pub fn convert_line(way: Way, line: &[u8], last: u32, out: &mut [u8], at: usize) -> LineEnd
-    ensures { progress (output out.new result.place) (next last) result.over
-        ≡ line_done (converted_by way line.now) (progress (output out.old at) last false) }
+// The line after line `last`: what it gives; or the line of its refusal, which ends the work.
+pub fn convert_line(
+    way: Way,
+    line: &[u8],
+    last: &mut u32,
+    output: &mut Output,
+) -> Result<(), Refusal>
+    ensures lent { output.new.buffer.ghost_name ≡ output.old.buffer.ghost_name }
+    ensures text { progress (contents output.new) last.new (is_err result)
+        ≡ line_done (converted_by way line.now) (progress (contents output.old) last.old false) }
 {
-    let c = convert_either(way, line, out, at);
-    if c.refusal == 0 {
-        return LineEnd {
-            place: c.place,
-            over: false,
-        };
+    *last = last.wrapping_add(1);
+    let done = convert_either(way, line, output);
+    if let Err(refusal) = done {
+        put_refusal(output, refusal, *last);
     }
-    LineEnd {
-        place: put_refusal(out, c.place, c.refusal, wrapping_add_u32(last, 1)),
-        over: true,
-    }
+    done
 }
 
-// The lines of a block after line `number`; what they give fills the buffer from its start.
-pub fn convert_block(way: Way, text: &[u8], number: u32, out: &mut [u8]) -> BlockEnd
-    ensures { block_done (progress (output out.new result.place) result.last result.over) result.rest
-        ≡ block_from way text.now (progress (output out.old 0) number false) }
+// The lines of a block after line `last`: where the rest begins; or the refusal that ends the work.
+pub fn convert_block(
+    way: Way,
+    text: &[u8],
+    last: &mut u32,
+    output: &mut Output,
+) -> Result<usize, Refusal>
+    ensures lent { output.new.buffer.ghost_name ≡ output.old.buffer.ghost_name }
+    ensures text { block_done (progress (contents output.new) last.new (is_err result)) (rest_by text.now result)
+        ≡ block_from way text.now (progress (contents output.old) last.old false) }
 {
-    let mut place = 0;
-    let mut last = number;
     let mut from = 0;
     let mut to = newline_from(text, 0);
     while to < text.len() {
-        let t = convert_line(way, &text[from..to], last, out, place);
-        place = t.place;
-        last = wrapping_add_u32(last, 1);
-        if t.over {
-            return BlockEnd {
-                place: place,
-                last: last,
-                rest: text.len(),
-                over: true,
-            };
-        }
+        convert_line(way, &text[from..to], last, output)?;
         from = to + 1;
         to = newline_from(text, from);
     }
-    BlockEnd {
-        place: place,
-        last: last,
-        rest: from,
-        over: false,
-    }
+    Ok(from)
 }

@@ -1,57 +1,57 @@
 // An exchange of a program's loop: between a read and a write.
-ghost use Rattle.std.specs.Prelude.{◌≡◌, false, take};
-ghost use Rattle.hex_digits.specs.Output.{output};
+ghost use Rattle.std.specs.Prelude.{◌≡◌, false, take, is_err};
+ghost use Rattle.hex_digits.specs.Output.{contents};
 ghost use Rattle.lines.specs.Texts.{last_line};
-ghost use Rattle.records_conversion.specs.Loop.{progress, lines_done, exchange_done, exchange_from, conversion_start};
+ghost use Rattle.records_conversion.specs.Loop.{progress, lines_done, exchange_done, exchange_from, from_start, conversion_start};
 
 use crate::blocks::{convert_block, convert_line};
 use crate::{ConversionState, Way};
-use lines::{carry, least};
+use hex_digits::Output;
+use lines::carry;
+use refusals::Refusal;
 
 // No record and no frame is as long, so an unended line that is cut there stays refused.
 const MOST_KEPT: usize = 515;
 
-// Before the first read.
-pub fn begin() -> ConversionState
-    ensures { result ≡ conversion_start }
-{
-    ConversionState {
-        end: 0,
-        last: 0,
-        place: 0,
-        over: false,
+impl ConversionState {
+    // Before the first read.
+    pub fn new() -> ConversionState
+        ensures { result ≡ conversion_start }
+    {
+        ConversionState { end: 0, last: 0 }
     }
-}
 
-// The lines that end, where the block is filled up to `end`.
-pub fn convert(
-    s: ConversionState,
-    way: Way,
-    end: usize,
-    block: &mut [u8],
-    out: &mut [u8],
-) -> ConversionState
-    ensures { exchange_done (progress (output out.new result.place) result.last result.over) (take result.end block.new)
-        ≡ exchange_from way (take end block.old) (progress (output out.old 0) s.last false) }
-{
-    let e = least(end, block.len());
-    let t = convert_block(way, &block[..e], s.last, out);
-    ConversionState {
-        end: carry(block, t.rest, e, MOST_KEPT),
-        last: t.last,
-        place: t.place,
-        over: t.over,
+    // The lines that end, where the block is filled up to `end`: what they give fills the buffer from its start. A refusal ends
+    // the work.
+    pub fn convert(
+        &mut self,
+        way: Way,
+        end: usize,
+        block: &mut [u8],
+        output: &mut Output,
+    ) -> Result<(), Refusal>
+        ensures lent { output.new.buffer.ghost_name ≡ output.old.buffer.ghost_name }
+        ensures text { exchange_done (progress (contents output.new) self.new.last (is_err result)) (take self.new.end block.new)
+            ≡ exchange_from way (take end block.old) (progress (from_start output.old) self.old.last false) }
+    {
+        output.place = 0;
+        let filled = end.min(block.len());
+        let done = convert_block(way, &block[..filled], &mut self.last, output);
+        self.end = carry(block, done.unwrap_or(filled), filled, MOST_KEPT);
+        done.map(|_| ())
     }
-}
 
-// At the end of input: the last line may have no newline. The place of the buffer after what it gives.
-pub fn finish(s: ConversionState, way: Way, block: &[u8], out: &mut [u8]) -> usize
-    ensures { output out.new result
-        ≡ (lines_done way (last_line (take s.end block.now)) (progress (output out.old 0) s.last false)).output }
-{
-    let e = least(s.end, block.len());
-    if e == 0 {
-        return 0;
+    // At the end of input: the last line may have no newline. What it gives fills the buffer from its start.
+    pub fn finish(&mut self, way: Way, block: &[u8], output: &mut Output)
+        ensures lent { output.new.buffer.ghost_name ≡ output.old.buffer.ghost_name }
+        ensures text { contents output.new
+            ≡ (lines_done way (last_line (take self.old.end block.now)) (progress (from_start output.old) self.old.last false)).output }
+    {
+        output.place = 0;
+        let filled = self.end.min(block.len());
+        if 0 < filled {
+            // A refusal ends the work as the end of input does.
+            let _ = convert_line(way, &block[..filled], &mut self.last, output);
+        }
     }
-    convert_line(way, &block[..e], s.last, out, 0).place
 }

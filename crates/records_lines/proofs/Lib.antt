@@ -1,5 +1,4 @@
 pub mod ConversionLaws
-pub mod CopyLaws
 pub mod FrameLaws
 pub mod RecordLaws
 pub mod SizeLaws

@@ -1,11 +1,11 @@
 -- How much a line gives, and that a line of more bytes than any record or frame is refused.
 -- Assumes nothing.
-use Rattle.std.proofs.Common.{◌≡◌, ℕ, suc, ◌+◌, ◌-◌, ◌*◌, ◌≤◌, false, eqb, List, [], ◌∷◌, ◌++◌, length, drop, sym, refl, ap, arith, length-append, length-drop, length-take}
+use Rattle.std.proofs.Common.{◌≡◌, ℕ, suc, ◌+◌, ◌-◌, ◌*◌, ◌≤◌, false, eqb, List, [], ◌∷◌, ◌++◌, length, drop, sym, refl, ap, arith, length-append, length-drop, length-take, Option, Some, None}
 use Rattle.word.proofs.CaseLaws.{by_test}
 use Rattle.hex_digits.proofs.NumberLaws.{number_small}
 use Rattle.lines.specs.Texts.{lines_text}
 use Rattle.board_lines.specs.declared.Frame.{Frame}
-use Rattle.board_lines.specs.declared.Frame.TheVariants.{Set, Store, Run, Confined, Bad}
+use Rattle.board_lines.specs.declared.Frame.TheVariants.{Set, Store, Run, Confined}
 use Rattle.board_lines.specs.Lines.{is_length, frame_of, malformed_line}
 use Rattle.board_lines.proofs.FrameLaws.{frame_length, too_long, bad_length}
 use Rattle.records_lines.specs.Records.{record_type, is_data_type, is_record, record_body, malformed_record, record_refusal, record_address, record_data, address_bytes}
@@ -30,21 +30,21 @@ record_size s =
     (λ d. rw d (omega arith))))
     (λ e. rw e (omega arith))
 
-store_size : (s : List ℕ) (f : Frame) → 12 ≤ length s → length (lines_text (store_converted s f).lines) ≤ 2 * suc (length s)
+store_size : (s : List ℕ) (f : Option Frame) → 12 ≤ length s → length (lines_text (store_converted s f).lines) ≤ 2 * suc (length s)
 unfolding store_converted lines_text
-store_size s (Set a b) h = omega arith
-store_size s (Store a) h =
+store_size s (Some (Set a b)) h = omega arith
+store_size s (Some (Store a)) h =
     omega (
       arith,
       length-append (store_record s) (10 ∷ []),
       length-append (store_record s ++ 10 ∷ []) [],
       length_record s (omega arith),
     )
-store_size s (Run a b) h = omega arith
-store_size s (Confined a b) h = omega arith
-store_size s Bad h = omega arith
+store_size s (Some (Run a b)) h = omega arith
+store_size s (Some (Confined a b)) h = omega arith
+store_size s None h = omega arith
 
-bad_size : (s : List ℕ) → length (lines_text (store_converted s Bad).lines) ≤ 2 * suc (length s)
+bad_size : (s : List ℕ) → length (lines_text (store_converted s None).lines) ≤ 2 * suc (length s)
 unfolding store_converted lines_text
 bad_size s = omega arith
 

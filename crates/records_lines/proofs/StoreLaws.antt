@@ -1,10 +1,10 @@
--- The record of a frame: its checksum, its bytes put into a buffer, and its length.
+-- The record of a frame: its checksum, its bytes printed, and its length.
 -- Assumes nothing.
-use Rattle.std.proofs.Common.{◌≡◌, ℕ, ◌+◌, ◌-◌, ◌/◌, ◌%◌, ◌<◌, ◌≤◌, true, List, [], ◌∷◌, ◌++◌, length, drop, set, sym, refl, ap, ◌∙◌, mod-eq_of_lt, add-one, arith, length-append, length-drop}
-use Rattle.hex_digits.specs.Digits.{all_digits, digits}
-use Rattle.hex_digits.specs.Output.{newline, output, written, printed}
-use Rattle.hex_digits.proofs.DigitLaws.{put_in, number_digits}
-use Rattle.hex_digits.proofs.OutputLaws.{on, length_written, fits, full}
+use Rattle.std.proofs.Common.{◌≡◌, ℕ, ◌+◌, ◌-◌, ◌/◌, ◌%◌, ◌<◌, ◌≤◌, Bool, true, false, leb, List, [], ◌∷◌, ◌++◌, length, drop, sym, refl, ap, ◌∙◌, mod-eq_of_lt, arith, length-append, length-drop, leb-true}
+use Rattle.hex_digits.specs.Digits.{digits}
+use Rattle.hex_digits.specs.Output.{Output, newline, printed}
+use Rattle.hex_digits.proofs.DigitLaws.{number_digits}
+use Rattle.hex_digits.proofs.OutputLaws.{on_printed, left_out}
 use Rattle.board_lines.specs.Lines.{is_length}
 use Rattle.board_lines.specs.Stores.{byte_count}
 use Rattle.board_lines.proofs.DigitLaws.{number_2}
@@ -43,33 +43,6 @@ sum_is s k z e =
 abbrev record_text : List ℕ → List ℕ
 record_text s = store_record s ++ newline ∷ []
 
-module _ (o x y z s : List ℕ) (p a b k : ℕ) where
-  pub record_written : p + length s + 5 ≤ length o → is_length (length s) ≡ true
-      → output x a ≡ printed (digits 2 (length s / 2)) (output (set (set o p 83) (p + 1) 51) (p + 2)) → y ≡ written x (p + 4) (rest s)
-      → k ≡ 255 - (length s / 2 + byte_sum (digit_bytes (rest s))) % 256
-      → output z b ≡ printed (digits 2 k) (output y (p + length s + 2)) → set z (p + length s + 4) newline ≡ written o p (record_text s)
-  record_written h i e f g j =
-      let q = frame_length (length s) i in
-      let n : ℕ = length s in
-      let c : ℕ = n / 2 in
-      let d : List ℕ = drop 2 s in
-      let w : List ℕ = set (set o p 83) (p + 1) 51 in
-      let ew : w ≡ written o p (83 ∷ 51 ∷ []) = rw add-one refl in
-      let lw : length w ≡ length o = ap length ew ∙ length_written (83 ∷ 51 ∷ []) o p in
-      let ex : x ≡ written w (p + 2) (digits 2 c) = put_in w x (p + 2) 2 c a (omega (arith, q.least)) e in
-      let lx : length x ≡ length w = ap length ex ∙ length_written (digits 2 c) w (p + 2) in
-      let ey : y ≡ written x (p + 4) d = f ∙ ap (written x (p + 4)) (rest_is s) in
-      let ly : length y ≡ length x = ap length ey ∙ length_written d x (p + 4) in
-      let ez : z ≡ written y (p + n + 2) (digits 2 k) = put_in y z (p + n + 2) 2 k b (omega arith) j in
-      let body : List ℕ = digits 2 c ++ d in
-      let long : length body ≡ n = omega (arith, length-append (digits 2 c) d, length-drop 2 s, q.least) in
-      let t = on (83 ∷ 51 ∷ []) (digits 2 c) o w x p (p + 2) ew ex refl in
-      let t = on (83 ∷ 51 ∷ digits 2 c) d o x y p (p + 4) t ey refl in
-      let t = on (83 ∷ 51 ∷ body) (digits 2 k) o y z p (p + n + 2) t ez (omega (arith, long)) in
-      let l : p + n + 4 ≡ p + length (83 ∷ 51 ∷ (body ++ digits 2 k)) = omega (arith, long, length-append body (digits 2 k)) in
-      on (83 ∷ 51 ∷ (body ++ digits 2 k)) (newline ∷ []) o z (set z (p + n + 4) newline) p (p + n + 4) t refl l
-      ∙ (λ v. written o p ((83 ∷ 51 ∷ ((digits 2 (count_is s q v) ++ d) ++ digits 2 (sum_is s k q g v))) ++ newline ∷ []))
-
 pub length_record : (s : List ℕ) → 2 ≤ length s → length (store_record s) ≡ length s + 4
 length_record s h =
     omega (
@@ -79,15 +52,28 @@ length_record s h =
       length-drop 2 s,
     )
 
-length_text : (s : List ℕ) → is_length (length s) ≡ true → length s + 5 ≡ length (record_text s)
-length_text s i =
-    let l = (frame_length (length s) i).least in
-    omega (arith, length-append (store_record s) (newline ∷ []), length_record s (omega arith))
+module _ (o : Output) (s : List ℕ) (i : is_length (length s) ≡ true) (t : Bool) (g : t ≡ leb (o.place + (length s + 5)) (length o.bytes)) where
+  pub record_put : (u v w x y : Output) (c k : ℕ) → t ≡ true → u ≡ printed (83 ∷ 51 ∷ []) o → c ≡ length s / 2 → v ≡ printed (digits 2 c) u
+      → w ≡ printed (rest s) v → k ≡ 255 - (length s / 2 + byte_sum (digit_bytes (rest s))) % 256 → x ≡ printed (digits 2 k) w
+      → y ≡ printed (newline ∷ []) x → y ≡ printed (record_text s) o
+  record_put u v w x y c k h e₁ ec e₂ e₃ ek e₄ e₅ =
+      let q = frame_length (length s) i in
+      let n : ℕ = length s in
+      let m : ℕ = n / 2 in
+      let d : List ℕ = drop 2 s in
+      let r = leb-true _ _ (sym g ∙ h) in
+      let body : List ℕ = digits 2 m ++ d in
+      let ld : n - 2 ≡ length d = sym (length-drop 2 s) in
+      let long : n ≡ length body = omega (arith, length-append (digits 2 m) d, length-drop 2 s, q.least) in
+      let z = on_printed (83 ∷ 51 ∷ []) (digits 2 m) o u v 2 2 refl refl (omega (arith, r, q.least)) e₁ (e₂ ∙ ap (λ (j : ℕ). printed (digits 2 j) u) ec) in
+      let z = on_printed (83 ∷ 51 ∷ digits 2 m) d o v w 4 (n - 2) refl ld (omega (arith, r, q.least)) z (e₃ ∙ ap (λ (l : List ℕ). printed l v) (rest_is s)) in
+      let z = on_printed (83 ∷ 51 ∷ body) (digits 2 k) o w x (2 + n) 2 (omega (arith, long)) refl (omega (arith, r, q.least)) z e₄ in
+      let l : 4 + n ≡ length (83 ∷ 51 ∷ (body ++ digits 2 k)) = omega (arith, long, length-append body (digits 2 k)) in
+      on_printed (83 ∷ 51 ∷ (body ++ digits 2 k)) (newline ∷ []) o x y (4 + n) 1 l refl (omega (arith, r)) z e₅
+      ∙ (λ j. printed ((83 ∷ 51 ∷ ((digits 2 (count_is s q j) ++ d) ++ digits 2 (sum_is s k q ek j))) ++ newline ∷ []) o)
 
-module _ (o : List ℕ) (p : ℕ) (s : List ℕ) (i : (is_length (length s) ≡ true) × (all_digits s ≡ true)) where
-  pub record_in : (x : List ℕ) → p + (length s + 5) ≤ length o → x ≡ written o p (record_text s)
-      → output x (p + (length s + 5)) ≡ printed (record_text s) (output o p)
-  record_in x h e = fits (record_text s) o p x (length s + 5) (length_text s i.0) h e
-
-  pub record_out : length o < p + (length s + 5) → output o p ≡ printed (record_text s) (output o p)
-  record_out h = full (record_text s) o p (length s + 5) (length_text s i.0) h
+  pub record_left : t ≡ false → o ≡ printed (record_text s) o
+  record_left h =
+      let l = (frame_length (length s) i).least in
+      left_out (record_text s) o.bytes o.place (length s + 5) t
+      (omega (arith, length-append (store_record s) (newline ∷ []), length_record s (omega arith))) g h

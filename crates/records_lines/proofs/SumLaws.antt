@@ -1,11 +1,11 @@
 -- Numbers of digits: the bytes of a text summed, and the number of an address.
 -- Assumes nothing.
-use Rattle.std.proofs.Common.{◌≡◌, ℕ, suc, ◌+◌, ◌-◌, ◌*◌, ◌%◌, ◌^◌, ◌<◌, ◌≤◌, List, [], ◌∷◌, length, drop, sym, refl, ap, ◌∙◌, lt_of_lt_of_le, add-one, arith, length-drop, drop-cons}
-use native.Mathlib.Nat.{pow-le-pow_right}
-use native.Mathlib.Numerals.{add-two}
-use Rattle.hex_digits.specs.Digits.{number_at}
+use Rattle.std.proofs.Common.{◌≡◌, ℕ, ◌+◌, ◌*◌, ◌%◌, ◌^◌, ◌<◌, ◌≤◌, true, List, [], ◌∷◌, ◌++◌, length, get_or, sym, refl, ap, ◌∙◌, lt_of_lt_of_le, add-one, arith, ◌&&◌}
+use native.Mathlib.Nat.{pow-le-pow_right, zero-add}
+use Rattle.word.proofs.CaseLaws.{and_right}
+use Rattle.hex_digits.specs.Digits.{is_digit, all_digits, digit_of, number_at}
+use Rattle.hex_digits.proofs.DigitLaws.{digit_at}
 use Rattle.hex_digits.proofs.NumberLaws.{number_small}
-use Rattle.board_lines.proofs.DigitLaws.{number_2, number_next}
 use Rattle.records_lines.specs.Records.{digit_bytes, byte_sum}
 
 -- ---- the bytes of digits
@@ -16,57 +16,59 @@ no_bytes [] h = refl
 no_bytes (a ∷ []) h = refl
 no_bytes (a ∷ (b ∷ s)) h = absurd (omega arith)
 
-first_byte : (s : List ℕ) (i : ℕ) → i + 2 ≤ length s → digit_bytes (drop i s) ≡ number_at 2 s i ∷ digit_bytes (drop (i + 2) s)
-unfolding digit_bytes
-first_byte s i h =
-    rw (drop-cons s i 0 (omega arith), drop-cons s (suc i) 0 (omega arith), number_2 s i, add-one, add-two) refl
-
--- summed up to byte i
-pub record Summing (s : List ℕ) (i sum : ℕ) : Type 0 where
-  pub upto : i ≤ length s
+-- summed, but for those of the rest
+pub record Summing (s rest : List ℕ) (sum : ℕ) : Type 0 where
+  pub good : all_digits rest ≡ true
   pub small : sum < 256
-  pub sums : (sum + byte_sum (digit_bytes (drop i s))) % 256 ≡ byte_sum (digit_bytes s) % 256
+  pub sums : (sum + byte_sum (digit_bytes rest)) % 256 ≡ byte_sum (digit_bytes s) % 256
 
 module _ (s : List ℕ) where
-  pub summing_none : Summing s 0 0
-  summing_none = record { upto = omega arith; small = omega arith; sums = omega arith }
+  -- the next pair is of digits
+  pub pair_digits : (rest pair more : List ℕ) (sum : ℕ) → Summing s rest sum → rest ≡ pair ++ more → length pair ≡ 2
+      → (is_digit (get_or pair 0 0) ≡ true) × (is_digit (get_or pair 1 0) ≡ true)
+  pair_digits rest [] more sum r e l = absurd (omega (arith, l))
+  pair_digits rest (a ∷ []) more sum r e l = absurd (omega (arith, l))
+  pair_digits rest (a ∷ (b ∷ [])) more sum r e l =
+      let h : all_digits (a ∷ b ∷ more) ≡ true = sym (ap all_digits e) ∙ r.good in
+      (digit_at (a ∷ b ∷ more) 0 h (omega arith), digit_at (a ∷ b ∷ more) 1 h (omega arith))
+  pair_digits rest (a ∷ (b ∷ (c ∷ d))) more sum r e l = absurd (omega (arith, l))
 
-  pub summing_more : (i sum b x : ℕ) → Summing s i sum → 2 ≤ length s - i → b ≡ number_at 2 s i → x ≡ (sum + b) % 2 ^ 8
-      → Summing s (i + 2) x
-  unfolding byte_sum
-  summing_more i sum b x r h e g =
-      let f : byte_sum (digit_bytes (drop i s)) ≡ number_at 2 s i + byte_sum (digit_bytes (drop (i + 2) s)) =
-      ap byte_sum (first_byte s i (omega (arith, r.upto))) in
-      record { upto = omega (arith, r.upto); small = omega arith; sums = omega (arith, r.sums, f) }
+  pub summing_more : (rest pair more : List ℕ) (sum b x : ℕ) → Summing s rest sum → rest ≡ pair ++ more → length pair ≡ 2
+      → b ≡ digit_of (get_or pair 0 0) * 16 + digit_of (get_or pair 1 0) → x ≡ (sum + b) % 2 ^ 8 → Summing s more x
+  unfolding digit_bytes byte_sum
+  summing_more rest [] more sum b x r e l f g = absurd (omega (arith, l))
+  summing_more rest (c ∷ []) more sum b x r e l f g = absurd (omega (arith, l))
+  summing_more rest (c ∷ (d ∷ [])) more sum b x r e l f g =
+      let h : all_digits (c ∷ d ∷ more) ≡ true = sym (ap all_digits e) ∙ r.good in
+      let k : byte_sum (digit_bytes rest) ≡ digit_of c * 16 + digit_of d + byte_sum (digit_bytes more) =
+      ap (λ (t : List ℕ). byte_sum (digit_bytes t)) e in
+      record {
+        good = and_right (is_digit d) (all_digits more) (and_right (is_digit c) (is_digit d && all_digits more) h);
+        small = omega (arith, g);
+        sums = omega (arith, r.sums, k, f, g);
+      }
+  summing_more rest (a ∷ (b ∷ (c ∷ d))) more sum y x r e l f g = absurd (omega (arith, l))
 
-  pub summing_all : (i sum : ℕ) → Summing s i sum → length s - i < 2 → sum ≡ byte_sum (digit_bytes s) % 256
+  pub summing_all : (rest : List ℕ) (sum : ℕ) → Summing s rest sum → length rest < 2 → sum ≡ byte_sum (digit_bytes s) % 256
   unfolding byte_sum
-  summing_all i sum r h =
-      let f : byte_sum (digit_bytes (drop i s)) ≡ 0 = ap byte_sum (no_bytes (drop i s) (rw (length-drop i s) h)) in
+  summing_all rest sum r h =
+      let f : byte_sum (digit_bytes rest) ≡ 0 = ap byte_sum (no_bytes rest h) in
       omega (arith, r.sums, r.small, f)
 
 -- ---- the number of an address
 
--- so many bytes of it are read
-pub record Addressing (s : List ℕ) (w k a : ℕ) : Type 0 where
-  pub upto : k ≤ w
-  pub number : a ≡ number_at (k * 2) s 2
+-- so many digits of it are read
+pub record Addressing (s : List ℕ) (k a : ℕ) : Type 0 where
+  pub upto : k ≤ length s
+  pub number : a ≡ number_at k s 0
 
-module _ (s : List ℕ) (w : ℕ) where
-  pub addressing_none : Addressing s w 0 0
-  addressing_none = record { upto = omega arith; number = refl }
+module _ (s : List ℕ) (k a : ℕ) (r : Addressing s k a) where
+  -- another digit fits
+  pub addressing_fits : k < length s → length s ≤ 8 → a < 16 ^ 7
+  addressing_fits h g =
+      let l : k ≤ 7 = omega arith in
+      rw r.number (lt_of_lt_of_le (number_small k s 0) (pow-le-pow_right {n = 16} (omega arith) l))
 
-  module _ (k a : ℕ) (r : Addressing s w k a) where
-    -- another byte fits
-    pub addressing_fits : k < w → w ≤ 4 → a < 16 ^ 6
-    addressing_fits h g =
-        let l : k * 2 ≤ 6 = omega arith in
-        rw r.number (lt_of_lt_of_le (number_small (k * 2) s 2) (pow-le-pow_right {n = 16} (omega arith) l))
-
-    pub addressing_more : (b : ℕ) → k < w → b ≡ number_at 2 s (2 + k * 2) → Addressing s w (k + 1) (a * 256 + b)
-    addressing_more b h e =
-        let n : (k + 1) * 2 ≡ suc (suc (k * 2)) = omega arith in
-        record { upto = omega arith; number = rw n (sym (number_next (k * 2) s 2 ∙ rw (sym e, sym r.number) refl)) }
-
-    pub addressing_all : w ≤ k → a ≡ number_at (w * 2) s 2
-    addressing_all h = let e : k ≡ w = omega (arith, r.upto) in r.number ∙ rw e refl
+  pub addressing_more : (d : ℕ) → k < length s → d ≡ digit_of (get_or s k 0) → Addressing s (k + 1) (a * 16 + d)
+  addressing_more d h e =
+      rw add-one (record { upto = h; number = rw (r.number, e, zero-add) refl })

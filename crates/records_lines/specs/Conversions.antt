@@ -1,12 +1,12 @@
 -- A line converted (request (j)): a record to frames, and a frame to a record.
 -- Assumes nothing.
-use Rattle.std.specs.Prelude.{◌≡◌, ℕ, zero, suc, ◌+◌, ◌/◌, ◌%◌, ◌^◌, cond, List, [], ◌∷◌, ◌++◌, length, take, drop, ◌==◌}
+use Rattle.std.specs.Prelude.{◌≡◌, ℕ, zero, suc, ◌+◌, ◌/◌, ◌%◌, ◌^◌, cond, List, [], ◌∷◌, ◌++◌, length, take, drop, ◌==◌, Option, Some, None}
 use Rattle.word.proofs.ListLaws.{Each}
 use Rattle.hex_digits.specs.Digits.{digits}
 use Rattle.hex_digits.specs.Output.{Output, printed}
 use Rattle.lines.specs.Texts.{lines_text}
 use Rattle.board_lines.specs.declared.Frame.{Frame}
-use Rattle.board_lines.specs.declared.Frame.TheVariants.{Set, Store, Run, Confined, Bad}
+use Rattle.board_lines.specs.declared.Frame.TheVariants.{Set, Store, Run, Confined}
 use Rattle.board_lines.specs.Lines.{frame_of, malformed_line}
 use Rattle.board_lines.specs.Stores.{byte_count}
 use Rattle.records_lines.specs.Records.{record_type, is_data_type, letter_s, checksum_of, record_refusal, record_address, record_data}
@@ -64,12 +64,12 @@ store_record s = letter_s ∷ 51 ∷ (frame_body s ++ digits 2 (checksum_of (fra
 abbrev pub other_kind : ℕ
 other_kind = 15
 
-unfoldable pub store_converted : List ℕ → Frame → LineConverted
-store_converted s (Set place word) = line_refused other_kind
-store_converted s (Store address) = line_gives (store_record s ∷ [])
-store_converted s (Run budget level) = line_refused other_kind
-store_converted s (Confined budget level) = line_refused other_kind
-store_converted s Bad = line_refused malformed_line
+unfoldable pub store_converted : List ℕ → Option Frame → LineConverted
+store_converted s (Some (Set place word)) = line_refused other_kind
+store_converted s (Some (Store address)) = line_gives (store_record s ∷ [])
+store_converted s (Some (Run budget level)) = line_refused other_kind
+store_converted s (Some (Confined budget level)) = line_refused other_kind
+store_converted s None = line_refused malformed_line
 
 abbrev pub frame_converted : List ℕ → LineConverted
 frame_converted s = store_converted s (frame_of s)

@@ -1,88 +1,49 @@
 // A frame to a record.
-ghost use Rattle.std.specs.Prelude.{◌≡◌, ◌+◌, ◌≤◌, true, [], ◌∷◌, ◌++◌, length};
+ghost use Rattle.std.specs.Prelude.{◌≡◌, true, [], ◌∷◌, ◌++◌, length};
+ghost use Rattle.refusals.specs.Numbers.{refusal_of};
 ghost use Rattle.hex_digits.specs.Digits.{all_digits};
-ghost use Rattle.hex_digits.specs.Output.{newline, output, written, printed};
+ghost use Rattle.hex_digits.specs.Output.{newline, contents, printed};
 ghost use Rattle.board_lines.specs.Lines.{is_length};
 ghost use Rattle.records_lines.specs.Conversions.{store_record, frame_converted, line_output, output_of};
 
-use crate::LineConversion;
-use crate::copies::copy;
 use crate::sums::checksum;
 use board_lines::Frame;
 use board_lines::frames::parse;
-use hex_digits::put_digits;
-
-// The refusals of a line that is no frame, and of a frame of another kind.
-const MALFORMED_LINE: u32 = 7;
-
-const OTHER_KIND: u32 = 15;
+use hex_digits::Output;
+use refusals::Refusal;
 
 // What a record has more than its frame, with the newline.
 const RECORD_MORE: usize = 5;
 
-// A record and its newline.
-fn write_record(out: &mut [u8], at: usize, frame: &[u8])
-    requires { (at + length frame.now + 5 ≤ length out.old) × (is_length (length frame.now) ≡ true)
-        × (all_digits frame.now ≡ true) }
-    ensures { out.new ≡ written out.old at (store_record frame.now ++ newline ∷ []) }
-{
-    let n = frame.len();
-    // Address, data and checksum have as many bytes as the frame.
-    let count = (n / 2) as u8;
-    let digits = &frame[2..];
-    out[at] = b'S';
-    out[at + 1] = b'3';
-    put_digits(out, at + 2, 2, count as u32);
-    copy(out, at + 4, digits);
-    put_digits(out, at + n + 2, 2, checksum(count, digits) as u32);
-    out[at + n + 4] = b'\n';
-}
-
-// The same, left out where there is no room: the place after it.
-fn put_record(out: &mut [u8], at: usize, frame: &[u8]) -> usize
+// A record and its newline; left out where there is no room.
+fn put_record(output: &mut Output, frame: &[u8])
     requires { (is_length (length frame.now) ≡ true) × (all_digits frame.now ≡ true) }
-    ensures { output out.new result
-        ≡ printed (store_record frame.now ++ newline ∷ []) (output out.old at) }
+    ensures lent { output.new.buffer.ghost_name ≡ output.old.buffer.ghost_name }
+    ensures text { contents output.new ≡ printed (store_record frame.now ++ newline ∷ []) (contents output.old) }
 {
-    let size = frame.len() + RECORD_MORE;
-    if at <= out.len() {
-        if size <= out.len() - at {
-            write_record(out, at, frame);
-            return at + size;
-        }
-        return at;
+    if output.has_room(frame.len() + RECORD_MORE) {
+        // Address, data and checksum have as many bytes as the frame.
+        let count = (frame.len() / 2) as u8;
+        let digits = &frame[2..];
+        output.put_text(b"S3");
+        output.put_digits(2, u32::from(count));
+        output.put_text(digits);
+        output.put_digits(2, u32::from(checksum(count, digits)));
+        output.put_byte(b'\n');
     }
-    at
 }
 
-// A line of frames: its record into a lent buffer, left out where there is no room.
-pub fn convert_frame(line: &[u8], out: &mut [u8], at: usize) -> LineConversion
-    ensures { line_output result.refusal (output out.new result.place)
-        ≡ output_of (frame_converted line.now) (output out.old at) }
+// A line of frames: its record, left out where there is no room; or a refusal, and the output as it was.
+pub fn convert_frame(line: &[u8], output: &mut Output) -> Result<(), Refusal>
+    ensures lent { output.new.buffer.ghost_name ≡ output.old.buffer.ghost_name }
+    ensures text { line_output (refusal_of result) (contents output.new)
+        ≡ output_of (frame_converted line.now) (contents output.old) }
 {
-    match parse(line) {
-        Frame::Set(_, _) => LineConversion {
-            refusal: OTHER_KIND,
-            place: at,
-        },
+    match parse(line).ok_or(Refusal::MalformedLine)? {
         Frame::Store(_) => {
-            let place = put_record(out, at, line);
-            LineConversion {
-                refusal: 0,
-                place: place,
-            }
+            put_record(output, line);
+            Ok(())
         }
-        Frame::Run(_, _) => LineConversion {
-            refusal: OTHER_KIND,
-            place: at,
-        },
-        Frame::Confined(_, _) => LineConversion {
-            refusal: OTHER_KIND,
-            place: at,
-        },
-        Frame::Bad => LineConversion {
-            refusal: MALFORMED_LINE,
-            place: at,
-        },
+        _ => Err(Refusal::OtherKind),
     }
 }

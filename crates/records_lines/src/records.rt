@@ -1,23 +1,16 @@
 // A record to frames.
-ghost use Rattle.std.specs.Prelude.{◌≡◌, ◌+◌, ◌*◌, ◌≤◌, true, [], ◌∷◌, ◌++◌, length};
+ghost use Rattle.std.specs.Prelude.{◌≡◌, ◌+◌, ◌<◌, ◌≤◌, true, [], ◌∷◌, ◌++◌, length, unwrap_or, IfSome};
+ghost use Rattle.refusals.specs.Numbers.{refusal_of};
 ghost use Rattle.hex_digits.specs.Digits.{all_digits, number_at};
-ghost use Rattle.hex_digits.specs.Output.{newline, output, written, printed};
+ghost use Rattle.hex_digits.specs.Output.{newline, contents, printed};
 ghost use Rattle.lines.specs.Texts.{lines_text};
 ghost use Rattle.records_lines.specs.Records.{address_bytes, is_data_type, is_count, is_record, record_refusal};
 ghost use Rattle.records_lines.specs.Conversions.{store_frame, frames_of, record_converted, line_output, output_of};
 
-use crate::LineConversion;
-use crate::copies::copy;
-use crate::sums::{byte_at, checksum};
-use board_lines::digits::{all_digits, byte_of};
-use hex_digits::put_digits;
-use lines::least;
-use std::num::wrapping_add_u32;
-
-// The refusals of a line that is no record, and of one with a wrong checksum.
-const MALFORMED_RECORD: u32 = 13;
-
-const WRONG_CHECKSUM: u32 = 14;
+use crate::sums::checksum;
+use board_lines::digits::{all_digits, byte_of, byte_of_digits, number_of};
+use hex_digits::Output;
+use refusals::Refusal;
 
 // S, type and count: what the count does not count.
 const HEAD: usize = 4;
@@ -35,35 +28,34 @@ const MOST_DIGITS: usize = 64;
 // Kind, address and newline of a frame.
 const FRAME_REST: usize = 11;
 
-// How many bytes the address has, by the type's byte; 0 where that is none.
-fn address_bytes(t: u8) -> usize
-    ensures { (result ≡ address_bytes t) × (result ≤ 4) }
+// How many bytes the address has, by the type's byte; None is no type. A type of data has the same as the one that ends it.
+#[tactic(auto, using(crate::proofs::RecordLaws::either_type, crate::proofs::RecordLaws::other_type), unfolding(crate::specs::Records::address_bytes))]
+fn address_bytes(kind: u8) -> Option<usize>
+    ensures { (unwrap_or result 0 ≡ address_bytes kind) × IfSome result (λ size. (0 < size) × (size ≤ 4)) }
 {
-    match t {
-        b'0' => 2,
-        b'1' => 2,
-        b'2' => 3,
-        b'3' => 4,
-        b'5' => 2,
-        b'7' => 4,
-        b'8' => 3,
-        b'9' => 2,
-        _ => 0,
+    match kind {
+        b'0' | b'5' => Some(2),
+        b'1' | b'9' => Some(2),
+        b'2' | b'8' => Some(3),
+        b'3' | b'7' => Some(4),
+        _ => None,
     }
 }
 
 // Whether records of a type may have this count.
-fn is_count(t: u8, count: usize) -> bool
-    ensures { result ≡ is_count t count }
+fn is_count(kind: u8, count: usize) -> bool
+    ensures { result ≡ is_count kind count }
 {
-    let w = address_bytes(t);
-    if w == 0 {
-        return false;
+    match address_bytes(kind) {
+        Some(size) => {
+            if kind <= LAST_WITH_DATA {
+                size + 1 <= count
+            } else {
+                count == size + 1
+            }
+        }
+        None => false,
     }
-    if t <= LAST_WITH_DATA {
-        return w + 1 <= count;
-    }
-    count == w + 1
 }
 
 // Whether a line is a record, be its checksum right or wrong.
@@ -74,126 +66,89 @@ fn is_record(line: &[u8]) -> bool
     if n < HEAD {
         return false;
     }
-    let count = byte_of(line[2], line[3]) as usize;
+    let count = usize::from(byte_of(line[2], line[3]));
     if (line[0] == b'S') & (n == HEAD + 2 * count) {
         return is_count(line[1], count) & all_digits(&line[2..]);
     }
     false
 }
 
-// 0, or the refusal of a line.
-fn refusal_of(line: &[u8]) -> u32
-    ensures { result ≡ record_refusal line.now }
+// Whether a line is a record with the right checksum.
+fn check(line: &[u8]) -> Result<(), Refusal>
+    ensures { refusal_of result ≡ record_refusal line.now }
 {
-    if is_record(line) {
-        let digits = &line[2..];
-        let n = digits.len() - 2;
-        if byte_at(digits, n) == checksum(0, &digits[..n]) {
-            return 0;
-        }
-        return WRONG_CHECKSUM;
+    if !is_record(line) {
+        return Err(Refusal::MalformedRecord);
     }
-    MALFORMED_RECORD
+    let end = line.len() - 2;
+    let sum = byte_of_digits(line[end], line[end + 1]);
+    if sum == checksum(0, &line[2..end]) {
+        Ok(())
+    } else {
+        Err(Refusal::WrongChecksum)
+    }
 }
 
-// The number of an address, of so many bytes.
-fn address_of(digits: &[u8], w: usize) -> u32
-    requires { (w ≤ 4) × (w * 2 + 2 ≤ length digits.now) × (all_digits digits.now ≡ true) }
-    ensures { result ≡ number_at (w * 2) digits.now 2 }
+// The number of an address.
+fn address_of(digits: &[u8]) -> u32
+    requires { (length digits.now ≤ 8) × (all_digits digits.now ≡ true) }
+    ensures { result ≡ number_at (length digits.now) digits.now 0 }
 {
-    let mut a = 0u32;
-    let mut k = 0;
-    while k < w {
-        a = a * 256 + byte_at(digits, 2 + k * 2) as u32;
-        k = k + 1;
+    let mut address = 0u32;
+    for digit in digits {
+        address = address * 16 + u32::from(number_of(*digit));
     }
-    a
+    address
 }
 
 // A frame and its newline.
-fn put_frame(out: &mut [u8], at: usize, address: u32, digits: &[u8])
-    requires { at + length digits.now + 11 ≤ length out.old }
-    ensures { out.new ≡ written out.old at (store_frame address digits.now ++ newline ∷ []) }
+fn put_frame(output: &mut Output, address: u32, digits: &[u8])
+    requires { output.old.place + length digits.now + 11 ≤ length output.old.buffer.now }
+    ensures lent { output.new.buffer.ghost_name ≡ output.old.buffer.ghost_name }
+    ensures text { contents output.new ≡ printed (store_frame address digits.now ++ newline ∷ []) (contents output.old) }
 {
-    put_digits(out, at, 2, STORE_KIND);
-    put_digits(out, at + 2, 8, address);
-    copy(out, at + 10, digits);
-    out[at + 10 + digits.len()] = b'\n';
+    output.put_digits(2, STORE_KIND);
+    output.put_digits(8, address);
+    output.put_text(digits);
+    output.put_byte(b'\n');
 }
 
-// All frames of data: the place after them.
-fn put_each(out: &mut [u8], at: usize, address: u32, digits: &[u8]) -> usize
-    requires { at + length (lines_text (frames_of address digits.now)) ≤ length out.old }
-    ensures { output out.new result
-        ≡ output (written out.old at (lines_text (frames_of address digits.now)))
-        (at + length (lines_text (frames_of address digits.now))) }
+// All frames of data; left out where there is no room for them all.
+fn put_frames(output: &mut Output, address: u32, bytes: &[u8])
+    ensures lent { output.new.buffer.ghost_name ≡ output.old.buffer.ghost_name }
+    ensures text { contents output.new ≡ printed (lines_text (frames_of address bytes.now)) (contents output.old) }
 {
-    let n = digits.len();
-    let mut place = at;
-    let mut a = address;
-    let mut i = 0;
-    while i < n {
-        let k = least(MOST_DIGITS, n - i);
-        put_frame(out, place, a, &digits[i..i + k]);
-        place = place + k + FRAME_REST;
-        a = wrapping_add_u32(a, MOST_BYTES);
-        i = i + k;
-    }
-    place
-}
-
-// The same, left out where there is no room.
-fn put_frames(out: &mut [u8], at: usize, address: u32, digits: &[u8]) -> usize
-    ensures { output out.new result
-        ≡ printed (lines_text (frames_of address digits.now)) (output out.old at) }
-{
-    let n = digits.len();
     // A last frame may have fewer digits.
-    let size = n + (n + 63) / MOST_DIGITS * FRAME_REST;
-    if at <= out.len() {
-        if size <= out.len() - at {
-            return put_each(out, at, address, digits);
+    let size = bytes.len() + bytes.len().div_ceil(MOST_DIGITS) * FRAME_REST;
+    if output.has_room(size) {
+        let mut next = address;
+        for digits in bytes.chunks(MOST_DIGITS) {
+            put_frame(output, next, digits);
+            next = next.wrapping_add(MOST_BYTES);
         }
-        return at;
     }
-    at
 }
 
 // S1, S2 and S3.
-fn is_data_type(t: u8) -> bool
-    ensures { result ≡ is_data_type t }
+fn is_data_type(kind: u8) -> bool
+    ensures { result ≡ is_data_type kind }
 {
-    (b'1' <= t) & (t <= LAST_WITH_DATA)
+    (b'1' <= kind) & (kind <= LAST_WITH_DATA)
 }
 
-// A line of records: its frames into a lent buffer; left out where there is no room for them all.
-pub fn convert_record(line: &[u8], out: &mut [u8], at: usize) -> LineConversion
-    ensures { line_output result.refusal (output out.new result.place)
-        ≡ output_of (record_converted line.now) (output out.old at) }
+// A line of records: its frames, left out where there is no room for them all; or a refusal, and the output as it was.
+pub fn convert_record(line: &[u8], output: &mut Output) -> Result<(), Refusal>
+    ensures lent { output.new.buffer.ghost_name ≡ output.old.buffer.ghost_name }
+    ensures text { line_output (refusal_of result) (contents output.new)
+        ≡ output_of (record_converted line.now) (contents output.old) }
 {
-    let refusal = refusal_of(line);
-    if refusal != 0 {
-        return LineConversion {
-            refusal: refusal,
-            place: at,
-        };
-    }
+    check(line)?;
     if is_data_type(line[1]) {
-        let digits = &line[2..];
-        let w = address_bytes(line[1]);
-        let place = put_frames(
-            out,
-            at,
-            address_of(digits, w),
-            &digits[2 + w * 2..digits.len() - 2],
-        );
-        return LineConversion {
-            refusal: 0,
-            place: place,
-        };
+        if let Some(size) = address_bytes(line[1]) {
+            let digits = &line[HEAD..line.len() - 2];
+            let (address, data) = digits.split_at(2 * size);
+            put_frames(output, address_of(address), data);
+        }
     }
-    LineConversion {
-        refusal: 0,
-        place: at,
-    }
+    Ok(())
 }

@@ -1,30 +1,18 @@
 // The checksum of a record.
-ghost use Rattle.std.specs.Prelude.{◌≡◌, ◌+◌, ◌-◌, ◌%◌, ◌≤◌, true, length};
-ghost use Rattle.hex_digits.specs.Digits.{all_digits, number_at};
+ghost use Rattle.std.specs.Prelude.{◌≡◌, ◌+◌, ◌-◌, ◌%◌, true};
+ghost use Rattle.hex_digits.specs.Digits.{all_digits};
 ghost use Rattle.records_lines.specs.Records.{digit_bytes, byte_sum};
 
-use board_lines::digits::number_of;
-use std::num::wrapping_add_u8;
-
-// The number of the two digits from i on.
-pub(crate) fn byte_at(digits: &[u8], i: usize) -> u8
-    requires { (i + 2 ≤ length digits.now) × (all_digits digits.now ≡ true) }
-    ensures { result ≡ number_at 2 digits.now i }
-{
-    number_of(digits[i]) * 16 + number_of(digits[i + 1])
-}
+use board_lines::digits::byte_of_digits;
 
 // The bytes of digits summed, modulo 256.
 fn low_sum(digits: &[u8]) -> u8
     requires { all_digits digits.now ≡ true }
     ensures { result ≡ byte_sum (digit_bytes digits.now) % 256 }
 {
-    let n = digits.len();
     let mut sum = 0u8;
-    let mut i = 0;
-    while 2 <= n - i {
-        sum = wrapping_add_u8(sum, byte_at(digits, i));
-        i = i + 2;
+    for pair in digits.chunks_exact(2) {
+        sum = sum.wrapping_add(byte_of_digits(pair[0], pair[1]));
     }
     sum
 }
@@ -34,5 +22,5 @@ pub(crate) fn checksum(first: u8, digits: &[u8]) -> u8
     requires { all_digits digits.now ≡ true }
     ensures { result ≡ 255 - (first + byte_sum (digit_bytes digits.now)) % 256 }
 {
-    255 - wrapping_add_u8(first, low_sum(digits))
+    255 - first.wrapping_add(low_sum(digits))
 }

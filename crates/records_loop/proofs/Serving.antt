@@ -7,9 +7,13 @@ use mathlib.Core.List.{List, [], ◌∷◌, ◌++◌, append_assoc, append-nil}
 use native.Mathlib.Omega.{arith}
 use lib.ListN.{length, take, drop, length-append, length-take}
 use lib.Seq.{take-length, take-append-add}
+use Rattle.std.specs.Prelude.{Result, Ok, Err, is_err, ⊤}
 use Rattle.std.specs.Borrow.{Bor, MutBor}
+use Rattle.refusals.specs.declared.Refusal.{Refusal}
+use Rattle.refusals.specs.declared.Refusal.TheVariants.{MalformedRecord}
+use Rattle.hex_digits.specs.declared.Output.{Output as LentOutput}
 use Rattle.word.proofs.CaseLaws.{by_test}
-use Rattle.hex_digits.specs.Output.{Output, output, written}
+use Rattle.hex_digits.specs.Output.{Output, output, contents, written}
 use Rattle.hex_digits.proofs.OutputLaws.{length_written, printed_front}
 use Rattle.lines.specs.Texts.{lines_of, next, last_of, ended_lines, size_of, last_line, whole}
 use Rattle.records_conversion.specs.declared.Way.{Way}
@@ -27,13 +31,13 @@ module _ (w : Way) (p : BetweenCalls) (r : List ℕ) (x : ConvertCall) (f : Exch
   bytes = p.kept ++ r
 
   -- what the exported contract says: it asks for nothing
-  said : exchange_done (progress (output x.buffer_left x.answer.place) x.answer.last x.answer.over) (take x.answer.end x.block_left)
+  said : exchange_done (progress (contents x.output_left) x.state_left.last (is_err x.answer)) (take x.state_left.end x.block_left)
       ≡ exchange_from w bytes (progress (output p.buffer 0) p.last false)
   said =
-      f.answers tt
+      (f.answers tt).1
       ∙ (λ i. exchange_from w (f.bytes i) (progress (output (f.buffer i) 0) (f.number i) false))
 
-  done : progress (output x.buffer_left x.answer.place) x.answer.last x.answer.over
+  done : progress (contents x.output_left) x.state_left.last (is_err x.answer)
       ≡ progress (output (written p.buffer 0 (conversion w (next p.last) (ended_lines bytes)))
       (0 + length (conversion w (next p.last) (ended_lines bytes))))
       (last_done w p.last (ended_lines bytes)) (stopped w (ended_lines bytes))
@@ -47,11 +51,11 @@ module _ (w : Way) (p : BetweenCalls) (r : List ℕ) (x : ConvertCall) (f : Exch
       ∙ printed_front (conversion w (next p.last) (ended_lines bytes)) p.buffer
       (omega (arith, f.room, size_ended bytes, printed_room w (next p.last) (ended_lines bytes)))
 
-  over_is : x.answer.over ≡ stopped w (ended_lines bytes)
+  over_is : is_err x.answer ≡ stopped w (ended_lines bytes)
   over_is = ap (λ (z : Progress). z.over) done
 
   -- the work is over, whatever follows
-  stopped_is : (u : List ℕ) → x.answer.over ≡ true → to_write x ≡ conversion w (next p.last) (lines_of (bytes ++ u))
+  stopped_is : (u : List ℕ) → is_err x.answer ≡ true → to_write x ≡ conversion w (next p.last) (lines_of (bytes ++ u))
   stopped_is u h =
       handed_is
       ∙ sym (append-nil (conversion w (next p.last) (ended_lines bytes)))
@@ -61,21 +65,21 @@ module _ (w : Way) (p : BetweenCalls) (r : List ℕ) (x : ConvertCall) (f : Exch
       ++ cond b [] (conversion w (next (last_of p.last (ended_lines bytes))) (lines_of (take most_kept (rest_of bytes) ++ u))))
       (sym over_is ∙ h))
 
-  module _ (h : x.answer.over ≡ false) where
+  module _ (h : is_err x.answer ≡ false) where
     none : stopped w (ended_lines bytes) ≡ false
     none = sym over_is ∙ h
 
-    last_is : x.answer.last ≡ last_of p.last (ended_lines bytes)
+    last_is : x.state_left.last ≡ last_of p.last (ended_lines bytes)
     last_is = ap (λ (z : Progress). z.last) done ∙ none_stopped w p.last (ended_lines bytes) none
 
-    kept_is : take x.answer.end x.block_left ≡ take most_kept (rest_of bytes)
+    kept_is : take x.state_left.end x.block_left ≡ take most_kept (rest_of bytes)
     kept_is =
         ap (λ (z : ExchangeDone). z.kept) said
         ∙ ap (λ (b : Bool). take most_kept (drop (cond b (length bytes) (size_of (ended_lines bytes))) bytes))
         (sym (ap (λ (z : ExchangeDone). z.progress.over) said) ∙ h)
 
     -- with what follows
-    on_is : (u t : List ℕ) → t ≡ conversion w (next x.answer.last) (lines_of (take x.answer.end x.block_left ++ u))
+    on_is : (u t : List ℕ) → t ≡ conversion w (next x.state_left.last) (lines_of (take x.state_left.end x.block_left ++ u))
         → to_write x ++ t ≡ conversion w (next p.last) (lines_of (bytes ++ u))
     on_is u t e =
         (λ i. handed_is i ++ (e ∙ (λ j. conversion w (next (last_is j)) (lines_of (kept_is j ++ u)))) i)
@@ -86,7 +90,7 @@ module _ (w : Way) (p : BetweenCalls) (r : List ℕ) (x : ConvertCall) (f : Exch
         none)
 
     -- what is kept is a line or nothing
-    one_kept : lines_of (take x.answer.end x.block_left) ≡ last_line (take x.answer.end x.block_left)
+    one_kept : lines_of (take x.state_left.end x.block_left) ≡ last_line (take x.state_left.end x.block_left)
     one_kept = rw kept_is (kept_last bytes)
 
 -- ---- the end of input
@@ -102,7 +106,7 @@ end_is w p x f e =
     let l = last_line p.kept in
     let c = conversion w (next p.last) l in
     ap (λ (o : Output). take o.place o.bytes)
-    (f.answers tt
+    ((f.answers tt).1
     ∙ (λ i. (lines_done w (last_line (f.bytes i)) (progress (output (f.buffer i) 0) (f.number i) false)).output)
     ∙ ap (λ (z : Progress). z.output) (roomy w p.last l p.buffer 0 (omega (arith, f.room, size_last p.kept))))
     ∙ printed_front c p.buffer (omega (arith, f.room, size_last p.kept, printed_room w (next p.last) l))
@@ -130,7 +134,7 @@ begins_is : (w : Way) (p : BetweenCalls) (rs : List (List ℕ)) (t u : List ℕ)
     → take (length t) (conversion w (next p.last) (lines_of (p.kept ++ (whole rs ++ u)))) ≡ t
 begins_is w _ _ _ u (nothing_written p) = refl
 begins_is w _ _ _ u (some_written p r rs x t f h s) =
-    let c = conversion w (next x.answer.last) (lines_of (take x.answer.end x.block_left ++ (whole rs ++ u))) in
+    let c = conversion w (next x.state_left.last) (lines_of (take x.state_left.end x.block_left ++ (whole rs ++ u))) in
     let all : conversion w (next p.last) (lines_of (p.kept ++ ((r ++ whole rs) ++ u))) ≡ to_write x ++ c =
     ap (λ (t : List ℕ). conversion w (next p.last) (lines_of t))
     (ap (λ (t : List ℕ). p.kept ++ t) (append_assoc r (whole rs) u) ∙ sym (append_assoc p.kept r (whole rs ++ u)))
@@ -148,41 +152,45 @@ conversion_begins w o reads t s more = begins_is w (before_calls o) reads t more
 pub conversion_serves : ConversionServes
 conversion_serves ls ref w o input h g =
     by_test after.progress.over
-    (λ e. record { text = to_write call; writes = refusal_written (before_calls o) input [] call exchanged e })
+    (λ e. record { text = to_write call; writes = refusal_written (before_calls o) input [] call exchanged (over_is ∙ e) })
     (λ e. record {
       text = to_write call ++ to_write_last last_call;
-      writes = more_written (before_calls o) input [] call (to_write_last last_call) exchanged e (last_written (after_call call) last_call ended);
+      writes = more_written (before_calls o) input [] call (to_write_last last_call) exchanged (over_is ∙ e) (last_written (after_call call) last_call ended);
     })
   where
-    at : List ℕ → MutBor (List ℕ)
-    at t = record { ref_ptr = ref.ref_ptr; ghost_name = ref.ghost_name; now = t }
+    at : {A : Type 0} → A → MutBor A
+    at x = record { ref_ptr = ref.ref_ptr; ghost_name = ref.ghost_name; now = x }
 
     shared_at : List ℕ → Bor (List ℕ)
     shared_at t = record { ref_ptr = ref.ref_ptr; now = t }
+
+    lent : Output → LentOutput
+    lent x = record { buffer = at x.bytes; place = x.place }
 
     after : ExchangeDone
     after = exchange_from w input (progress (output o 0) 0 false)
 
     state : ConversionState
-    state =
-        record {
-          end = length after.kept;
-          last = after.progress.last;
-          place = after.progress.output.place;
-          over = after.progress.over;
-        }
+    state = record { end = length after.kept; last = after.progress.last }
+
+    answer : Result ⊤ Refusal
+    answer = cond after.progress.over (Err MalformedRecord) (Ok tt)
+
+    over_is : is_err answer ≡ after.progress.over
+    over_is = by_test after.progress.over (λ e. rw e refl) (λ e. rw e refl)
 
     call : ConvertCall
     call =
         record {
           lifetimes = ls;
-          state = conversion_start;
+          state = at conversion_start;
           end = length input;
           block = at input;
-          buffer = at o;
-          answer = state;
+          output = at (lent (output o 0));
+          answer = answer;
+          state_left = state;
           block_left = after.kept;
-          buffer_left = after.progress.output.bytes;
+          output_left = lent after.progress.output;
         }
 
     exchanged : ExchangeMade w (before_calls o) input call
@@ -192,9 +200,12 @@ conversion_serves ls ref w o input h g =
           bytes = take-length input;
           buffer = refl;
           room = h;
-          answers = λ _.
-              ap (λ (t : List ℕ). exchange_done after.progress t) (take-length after.kept)
-              ∙ ap (λ (t : List ℕ). exchange_from w t (progress (output o 0) 0 false)) (sym (take-length input));
+          answers = λ _. (
+            refl,
+            ap (λ (b : Bool). exchange_done (progress after.progress.output after.progress.last b) (take (length after.kept) after.kept)) over_is
+                ∙ ap (λ (t : List ℕ). exchange_done after.progress t) (take-length after.kept)
+                ∙ ap (λ (t : List ℕ). exchange_from w t (progress (output o 0) 0 false)) (sym (take-length input)),
+          );
         }
 
     over : Progress
@@ -204,11 +215,11 @@ conversion_serves ls ref w o input h g =
     last_call =
         record {
           lifetimes = ls;
-          state = state;
+          state = at state;
           block = shared_at after.kept;
-          buffer = at after.progress.output.bytes;
-          place = over.output.place;
-          buffer_left = over.output.bytes;
+          output = at (lent after.progress.output);
+          state_left = state;
+          output_left = lent over.output;
         }
 
     ended : EndMade w (after_call call) last_call
@@ -223,5 +234,5 @@ conversion_serves ls ref w o input h g =
               ap (λ (z : Progress). length z.output.bytes) (roomy w 0 (ended_lines input) o 0 (omega (arith, h, size_ended input)))
               ∙ length_written (conversion w 1 (ended_lines input)) o 0 in
               omega (arith, g, same, k, ap length (take-length after.kept));
-          answers = λ _. refl;
+          answers = λ _. (refl, refl);
         }

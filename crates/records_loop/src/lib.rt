@@ -1,9 +1,9 @@
 #![tactic(auto)]
 // The loop of the programs that convert: lines from standard input, what they give to standard output. It reads, makes an
-// exchange (`records_conversion::exchanges`), and writes what that answered; no contract can say what is read or written.
-use channels::{Input, receive, send};
-use records_conversion::Way;
-use records_conversion::exchanges::{begin, convert, finish};
+// exchange (`records_conversion::exchanges`), and writes what that printed; no contract can say what is read or written.
+use channels::{Failed, receive, send};
+use hex_digits::Output;
+use records_conversion::{ConversionState, Way};
 
 const BLOCK: usize = 65536;
 
@@ -11,32 +11,35 @@ const BLOCK: usize = 65536;
 const ROOM: usize = 2 * BLOCK + 13;
 
 // Until the input ends, a line is refused, or a read or a write fails.
-pub fn serve(rt: &HostRuntime, way: Way) {
-    let mut block_space = [0u8; BLOCK];
-    let mut out_space = [0u8; ROOM];
-    let block: &mut [u8] = &mut block_space;
-    let out: &mut [u8] = &mut out_space;
-    let mut s = begin();
-    // A proved loop has to end: it counts down from a number that no run uses up.
-    let mut turns = u64::MAX;
-    while 0 < turns {
-        match receive(rt, block, s.end) {
-            Input::Filled(end) => {
-                s = convert(s, way, end, block, out);
-            }
-            Input::Ended => {
-                let place = finish(s, way, block, out);
-                send(rt, out, place);
-                return;
-            }
-            Input::Failed => return,
+fn convert_all(
+    rt: &HostRuntime,
+    way: Way,
+    block: &mut [u8],
+    output: &mut Output,
+) -> Result<(), Failed> {
+    let mut state = ConversionState::new();
+    // A proved loop has to end: no run uses up as many turns.
+    for _ in 0..u64::MAX {
+        let Some(end) = receive(rt, block, state.end)? else {
+            state.finish(way, block, output);
+            return send(rt, output);
+        };
+        let converted = state.convert(way, end, block, output);
+        send(rt, output)?;
+        if converted.is_err() {
+            return Ok(());
         }
-        if !send(rt, out, s.place) {
-            return;
-        }
-        if s.over {
-            return;
-        }
-        turns = turns - 1;
     }
+    Ok(())
+}
+
+pub fn serve(rt: &HostRuntime, way: Way) {
+    let mut block = [0u8; BLOCK];
+    let mut buffer = [0u8; ROOM];
+    let mut output = Output {
+        buffer: &mut buffer,
+        place: 0,
+    };
+    // What failed was reported.
+    let _ = convert_all(rt, way, &mut block, &mut output);
 }

@@ -33,7 +33,7 @@ module _ (s : List ℕ) where
   pub accepted_valid : record_refusal s ≡ 0 → Valid s
   unfolding record_refusal
   accepted_valid h =
-      let p : RecordParts s = parts_of s (record_refusal s) refl h in
+      let p : RecordParts s = parts_of s h in
       let x : ℕ = number_at 2 s (length s - 2) in
       let y : ℕ = checksum_of (record_body s) in
       by_test (eqb x y)

@@ -8,11 +8,12 @@ use native.Mathlib.Nat.{mod-eq_of_lt}
 use native.Mathlib.Omega.{arith}
 use lib.ListN.{length, take, drop, take-append-drop}
 use lib.Seq.{drop-drop}
+use Rattle.std.specs.Prelude.{Option, Some, None}
 use Rattle.hex_digits.specs.Digits.{all_digits, number_at, digits}
 use Rattle.hex_digits.proofs.DigitLaws.{all_append, all_digits_law, number_digits}
 use Rattle.hex_digits.proofs.NumberLaws.{digits_number}
 use Rattle.board_lines.specs.declared.Frame.{Frame}
-use Rattle.board_lines.specs.declared.Frame.TheVariants.{Set, Store, Run, Confined, Bad}
+use Rattle.board_lines.specs.declared.Frame.TheVariants.{Set, Store, Run, Confined}
 use Rattle.board_lines.specs.Lines.{numbers_of, frame_of}
 use Rattle.board_lines.proofs.FrameLaws.{StoreForm, store_form, form_store}
 use Rattle.records_lines.specs.Conversions.{line_gives, store_frame, store_record, store_converted, frame_converted}
@@ -20,13 +21,13 @@ use Rattle.records_lines.specs.Conversions.{line_gives, store_frame, store_recor
 -- ---- frames that are accepted
 
 module _ (s : List ℕ) where
-  accepted_kind : (f : Frame) → (store_converted s f).refusal ≡ 0 → (numbers_of f).kind ≡ 2
+  accepted_kind : (f : Option Frame) → (store_converted s f).refusal ≡ 0 → (numbers_of f).kind ≡ 2
   unfolding store_converted
-  accepted_kind (Set a b) h = absurd (omega arith)
-  accepted_kind (Store a) h = refl
-  accepted_kind (Run a b) h = absurd (omega arith)
-  accepted_kind (Confined a b) h = absurd (omega arith)
-  accepted_kind Bad h = absurd (omega arith)
+  accepted_kind (Some (Set a b)) h = absurd (omega arith)
+  accepted_kind (Some (Store a)) h = refl
+  accepted_kind (Some (Run a b)) h = absurd (omega arith)
+  accepted_kind (Some (Confined a b)) h = absurd (omega arith)
+  accepted_kind None h = absurd (omega arith)
 
   pub accepted_storing : (frame_converted s).refusal ≡ 0 → StoreForm s
   accepted_storing h = store_form s (accepted_kind (frame_of s) h)

@@ -1,18 +1,11 @@
-use Rattle.lines.proofs.SearchLaws.{seeking_past, seeking_found, seeking_more, seeking_end}
-use Rattle.std.proofs.Common.{rules}
+use Rattle.lines.specs.Texts.{newline_at}
+use Rattle.lines.proofs.SearchLaws.{first_newline, none_after}
+use Rattle.std.proofs.Common.{◌+◌, ℕ, ap, ◌∙◌, arith}
+use Rattle.std.proofs.lemmas.Slice.{between_to_end}
 use Rattle.lines.proofs.newline_from.Goals as goal
 
 pub returns-then-text-from : goal.returns-then-text-from
-returns-then-text-from c = seeking_past _ _ c.if-text-from.true
-
-pub loop-i-init : goal.loop-i-init
-loop-i-init c = record { upto = c.skip-i.ensures.0; sums = c.skip-i.ensures.1 }
-
-pub returns-then-text-i-eq10 : goal.returns-then-text-i-eq10
-returns-then-text-i-eq10 c = search (rules, seeking_found)
-
-pub loop-i-preserved : goal.loop-i-preserved
-loop-i-preserved c = search (rules, seeking_more)
+returns-then-text-from c = none_after _ _ c.if-text-from.true
 
 pub returns : goal.returns
-returns c = search (rules, seeking_end)
+returns c = ap (λ (k : ℕ). c.args.from + k) (c.unwrap_or.ensures ∙ first_newline _ _ c.memchr.ensures ∙ ap newline_at (between_to_end c.args.text.now c.args.from _ (omega arith)))

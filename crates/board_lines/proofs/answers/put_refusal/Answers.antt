@@ -1,12 +1,8 @@
-use Rattle.std.proofs.Common.{arith}
-use Rattle.board_lines.proofs.AnswerLaws.{refusal_in, refusal_out}
+use Rattle.board_lines.proofs.AnswerLaws.{refusal_put, refusal_left}
 use Rattle.board_lines.proofs.answers.put_refusal.Goals as goal
 
-pub returns-then-out-at-ge-REFUSED_SIZE : goal.returns-then-out-at-ge-REFUSED_SIZE
-returns-then-out-at-ge-REFUSED_SIZE c = refusal_in _ _ _ _ _ (omega arith) c.write_refused.ensures
+pub returns-then-has_room-clause-text : goal.returns-then-has_room-clause-text
+returns-then-has_room-clause-text c = refusal_put _ _ _ c.args.line c.has_room.ensures _ _ _ _ c.if-has_room.true c.put_digits.ensures.text (rw c.number.ensures at c.put_digits-then-has_room.ensures.text) c.put_digits-then-has_room-2.ensures.text c.put_byte.ensures.text
 
-pub returns-then-at-out : goal.returns-then-at-out
-returns-then-at-out c = refusal_out _ _ _ _ (omega arith)
-
-pub returns : goal.returns
-returns c = refusal_out _ _ _ _ (omega arith)
+pub returns-else-has_room-clause-text : goal.returns-else-has_room-clause-text
+returns-else-has_room-clause-text c = refusal_left _ _ _ c.args.line c.has_room.ensures c.if-has_room.false

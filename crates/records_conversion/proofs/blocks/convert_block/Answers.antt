@@ -1,18 +1,13 @@
-use Rattle.records_conversion.proofs.BlockLaws.{converting_none, converting_refused, converting_more, converting_over}
-use Rattle.std.proofs.Common.{arith, rules}
+use Rattle.records_conversion.proofs.BlockLaws.{converting_refused, converting_more, converting_over}
+use Rattle.std.proofs.Common.{◌≡◌, Err, ◌∙◌, rules}
 use Rattle.records_conversion.proofs.blocks.convert_block.Goals as goal
 
-pub loop-to-init : goal.loop-to-init
-loop-to-init c = search (rules, converting_none)
-
-pub returns-then-t : goal.returns-then-t
-returns-then-t c = converting_refused _ _ _ _ _ _ _ c.loop-to.invariant.0 c.loop-to-test.true _ _ c.convert_line-t.ensures _ c.if-t.true c.wrapping_add_u32-last.ensures.value
-
-pub loop-to-smaller : goal.loop-to-smaller
-loop-to-smaller c = omega (arith, c.loop-to.invariant.0.upto, c.loop-to.invariant.0.ends, c.loop-to-test.true)
+pub returns-in_err-convert_line-clause-text : goal.returns-in_err-convert_line-clause-text
+returns-in_err-convert_line-clause-text c = let e : c.from_residual.result ≡ Err c.in_err-convert_line.field-0.0 = search rules in
+    rw e (converting_refused _ _ _ _ _ _ _ c.loop-to.invariant.0 c.loop-to-test.true _ _ c.in_err-convert_line.ensures.text)
 
 pub loop-to-preserved : goal.loop-to-preserved
-loop-to-preserved c = (converting_more _ _ _ _ _ _ _ c.loop-to.invariant.0 c.loop-to-test.true _ _ c.convert_line-t.ensures _ _ c.if-t.false c.wrapping_add_u32-last.ensures.value c.newline_from-to-in-loop-to.ensures, search rules)
+loop-to-preserved c = (converting_more _ _ _ _ _ _ _ c.loop-to.invariant.0 c.loop-to-test.true _ _ c.in_ok-convert_line.ensures.text _ c.newline_from-to-in-loop-to.ensures, c.in_ok-convert_line.ensures.lent ∙ c.loop-to.invariant.1)
 
-pub returns : goal.returns
-returns c = converting_over _ _ _ _ _ _ _ c.loop-to.invariant.0 c.loop-to-test.false
+pub returns-clause-text : goal.returns-clause-text
+returns-clause-text c = converting_over _ _ _ _ _ _ _ c.loop-to.invariant.0 c.loop-to-test.false

@@ -1,20 +1,22 @@
-use Rattle.records_lines.proofs.ConversionLaws.{bad_line, set_line, run_line, confined_line, store_line, store_put}
+use Rattle.std.proofs.Common.{◌≡◌, Some, None, Err, refl, rules}
+use Rattle.refusals.specs.declared.Refusal.TheVariants.{MalformedLine}
+use Rattle.board_lines.specs.declared.Frame.TheVariants.{Store}
+use Rattle.records_lines.proofs.ConversionLaws.{bad_line, other_line, store_line, store_put}
 use Rattle.records_lines.proofs.frames.convert_frame.Goals as goal
 
-pub put_record-place-requires : goal.put_record-place-requires
-put_record-place-requires c = store_line _ _ c.parse.ensures _ c.in-Store.is
+pub returns-in_err-ok_or-clause-text : goal.returns-in_err-ok_or-clause-text
+returns-in_err-ok_or-clause-text c = let e : c.from_residual.result ≡ Err MalformedLine = search rules in
+    let f : c.parse.result ≡ None = search rules in
+    rw e (bad_line _ _ c.parse.ensures _ f)
 
-pub returns-in-Set : goal.returns-in-Set
-returns-in-Set c = set_line _ _ c.parse.ensures _ _ _ _ c.in-Set.is
+pub put_record-requires : goal.put_record-requires
+put_record-requires c = let f : c.parse.result ≡ Some (Store c.in-Store.field-0) = search rules in
+    store_line _ _ c.parse.ensures _ f
 
-pub returns-in-Store : goal.returns-in-Store
-returns-in-Store c = store_put _ _ c.parse.ensures _ _ _ _ _ c.in-Store.is c.put_record-place.ensures
+pub returns-in-Store-clause-text : goal.returns-in-Store-clause-text
+returns-in-Store-clause-text c = let f : c.parse.result ≡ Some (Store c.in-Store.field-0) = search rules in
+    store_put _ _ c.parse.ensures _ _ _ f c.put_record.ensures.text
 
-pub returns-in-Run : goal.returns-in-Run
-returns-in-Run c = run_line _ _ c.parse.ensures _ _ _ _ c.in-Run.is
-
-pub returns-in-Confined : goal.returns-in-Confined
-returns-in-Confined c = confined_line _ _ c.parse.ensures _ _ _ _ c.in-Confined.is
-
-pub returns-in-Bad : goal.returns-in-Bad
-returns-in-Bad c = bad_line _ _ c.parse.ensures _ _ c.in-Bad.is
+pub returns-in_default : goal.returns-in_default
+returns-in_default c = let f : c.parse.result ≡ Some c.in_ok-ok_or.field-0 = search rules in
+    record { lent = refl; text = other_line _ _ c.parse.ensures _ _ f c.in_default.not-Store }

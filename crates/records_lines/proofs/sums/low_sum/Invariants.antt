@@ -1,9 +1,11 @@
-use Rattle.std.proofs.Common.{◌-◌}
+use Rattle.std.proofs.Common.{◌≡◌}
+use Rattle.std.specs.Slice.Iter.{chunks_exact_rest, chunks_exact_size}
 use Rattle.records_lines.proofs.SumLaws.{Summing}
 use Rattle.records_lines.proofs.sums.low_sum.Given as goal
 
-abbrev pub invariant-loop-i : goal.invariant-loop-i
-invariant-loop-i l = Summing l.digits l.i l.sum
-
-abbrev pub decreases-loop-i : goal.decreases-loop-i
-decreases-loop-i l = l.n - l.i
+abbrev pub invariant-loop-pair : goal.invariant-loop-pair
+invariant-loop-pair l =
+    goal.iterator-loop-pair.can_next l.pair-iterator
+    × goal.iterator-loop-pair.is_finite l.pair-iterator
+    × (chunks_exact_size l.pair-iterator ≡ 2)
+    × Summing l.digits (chunks_exact_rest l.pair-iterator) l.sum
