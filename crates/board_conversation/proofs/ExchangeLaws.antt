@@ -1,6 +1,6 @@
 -- A block answered line by line: what is left of it gives what the whole gives.
 -- Assumes nothing.
-use Rattle.std.proofs.Common.{◌≡◌, ℕ, suc, ◌+◌, ◌-◌, ◌%◌, ◌^◌, ◌<◌, ◌≤◌, Bool, true, false, cond, ◌&&◌, List, [], ◌∷◌, length, take, drop, sym, refl, ap, ◌∙◌, true≢false, arith, le-ltb, lt-ltb}
+use Rattle.std.proofs.Common.{◌≡◌, ℕ, suc, ◌+◌, ◌-◌, ◌%◌, ◌^◌, ◌<◌, ◌≤◌, Bool, true, false, cond, ◌&&◌, List, [], ◌∷◌, length, take, drop, sym, refl, ap, ◌∙◌, true≢false, arith, ltb, le-ltb, lt-ltb}
 use Rattle.board_lines.specs.Lines.{frame_of}
 use Rattle.lines.specs.Texts.{newline_at, next, ends_line, ended_lines, size_of, last_of}
 use Rattle.board_conversation.specs.Code.{BoardIo, line_on}
@@ -64,10 +64,11 @@ module _ (t : List ℕ) (n : ℕ) (d₀ d : BoardIo) (last from : ℕ) (begun : 
           ∙ over true (left true v.0) (sym (lt-ltb (newline_at (drop from t)) (length (drop from t)) (ends_from t from to r.ends h)))
 
       pub answering_more : (e : ℕ) → w ≡ false → k ≡ (last + 1) % 2 ^ 32 → e ≡ to + 1 + newline_at (drop (to + 1) t)
-          → Answering t n d₀ d' k (to + 1) true e
+          → Answering t n d₀ d' k (to + 1) (ltb 0 (to + 1)) e
       unfolding lines_on last_of size_of
       answering_more e g i j =
-          record {
+          rw (lt-ltb 0 (to + 1) (omega arith))
+          (record {
             upto = omega arith;
             ends = j;
             told =
@@ -79,7 +80,7 @@ module _ (t : List ℕ) (n : ℕ) (d₀ d : BoardIo) (last from : ℕ) (begun : 
             place =
                 let s : size_of (together begun (ended_lines (drop from t))) ≡ suc (length line) + size_of more = ap size_of rest in
                 omega (arith, r.place, s, width_from t from to r.ends h, r.ends);
-          }
+          })
         where
           more : List (List ℕ)
           more = together true (ended_lines (drop (to + 1) t))

@@ -6,7 +6,8 @@ use Rattle.run_spec.specs.Run.{Board}
 use Rattle.board_lines.proofs.FrameLaws.{too_long}
 use Rattle.lines.specs.Texts.{lines_of, newline_at, next, ends_line, size_of, last_of, last_line, whole}
 use Rattle.board_lines.specs.Totals.{Totals, totals_line}
-use Rattle.board_lines.specs.Printouts.{Tally, totals_at, start_tally, lines_added}
+use Rattle.board_lines.specs.declared.Tally.{Tally}
+use Rattle.board_lines.specs.Printouts.{totals_at, start_tally, lines_added}
 use Rattle.lines.proofs.TextLaws.{Plain}
 use Rattle.board_lines.proofs.TotalsLaws.{added_totals}
 use Rattle.board_conversation.specs.Conversation.{Answered, line_answer, frame_answer, printed_after, conversation, program_on}

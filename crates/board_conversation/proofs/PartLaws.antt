@@ -1,10 +1,8 @@
 -- The part of a block that is not answered yet: where it lies, before an exchange of the loop and after it.
 -- Assumes nothing.
-use Rattle.std.proofs.Common.{◌≡◌, ℕ, ◌+◌, ◌-◌, ◌%◌, ◌^◌, ◌<◌, ◌≤◌, Bool, true, false, cond, List, [], ◌∷◌, length, take, drop, sym, refl, ap, ◌∙◌, arith, drop-drop}
+use Rattle.std.proofs.Common.{◌≡◌, ℕ, ◌+◌, ◌-◌, ◌<◌, ◌≤◌, Bool, true, false, cond, List, [], ◌∷◌, length, take, drop, sym, refl, ap, ◌∙◌, arith, drop-drop}
 use Rattle.run_spec.specs.Run.{Board}
-use Rattle.hex_digits.specs.Output.{Output, printed}
-use Rattle.board_lines.specs.Totals.{totals_line}
-use Rattle.board_lines.specs.Printouts.{Tally, totals_at, printout}
+use Rattle.board_lines.specs.Printouts.{Printout, totalled}
 use Rattle.lines.specs.Texts.{next, ends_line, last_line}
 use Rattle.board_conversation.specs.Code.{BoardIo, board_io, line_on}
 use Rattle.board_conversation.specs.Blocks.{LineAnswered, line_answered, answered_unless, lines_on, BlockAnswered, block_answered, block_on}
@@ -42,40 +40,36 @@ module _ (b : List ℕ) (from end e f : ℕ) (le : Least end (length b) e) (lf :
         ∙ exchange_is (drop (f + r) (take e b))
         (beyond r ∙ ap (λ (x : Bool). cond x (drop r (take (e - f) (drop f b))) (take 75 (drop r (take (e - f) (drop f b))))) (sym g ∙ more_is))
 
-    pub exchange_last : (k : ℕ) (c : List ℕ) → m ≡ false → take k c ≡ take 75 (take (e - (f + r)) (drop (f + r) b))
+    pub exchange_last : (k : ℕ) (c : List ℕ) → m ≡ false → take k c ≡ take 75 (drop (f + r) (take e b))
         → exchange d l (drop 0 (take k c)) false ≡ exchange_of n (drop from (take end b)) d₀
     exchange_last k c g i =
-        let w = rest_within n l r m d d₀ h in
         ap (λ (x : Bool). exchange d l (take k c) x) (sym g)
         ∙ exchange_is (take k c)
         (i
-        ∙ ap (λ (t : List ℕ). take 75 t) (sym (drop_take (f + r) e b w) ∙ beyond r)
+        ∙ ap (λ (t : List ℕ). take 75 t) (beyond r)
         ∙ ap (λ (x : Bool). cond x (drop r (take (e - f) (drop f b))) (take 75 (drop r (take (e - f) (drop f b))))) (sym g ∙ more_is))
 
-  -- ---- the end of input
+  -- ---- the end of input: the last line, if any
 
-  pub none_left : (n : ℕ) (d : Board) (o o' : Output) (k : Tally) → f ≡ e → o' ≡ printed (totals_line (totals_at k)) o
-      → board_io d (printout o' k) ≡ totals_on (lines_on (next n) (last_line (drop from (take end b))) (board_io d (printout o k)))
+  pub none_left : (n : ℕ) (d : BoardIo) → e ≤ f → d ≡ lines_on (next n) (last_line (drop from (take end b))) d
   unfolding lines_on
-  none_left n d o o' k h x =
+  none_left n d h =
       let z : e - f ≡ 0 = omega arith in
       let g : drop from (take end b) ≡ [] = sym (part b from end e f le lf) ∙ ap (λ (i : ℕ). take i (drop f b)) z in
-      rw g (ap (λ (y : Output). board_io d (printout y k)) x)
+      rw g refl
 
-  pub one_left : (n i : ℕ) (d : Board) (d₀ : BoardIo) (o o' : Output) (k : Tally) (w : Bool) → (f ≡ e → ⊥) → i ≡ (n + 1) % 2 ^ 32
-      → line_answered (board_io d (printout o k)) w ≡ answered_unless false i (take (e - f) (drop f b)) d₀
-      → o' ≡ printed (totals_line (totals_at k)) o
-      → board_io d (printout o' k) ≡ totals_on (lines_on (next n) (last_line (drop from (take end b))) d₀)
+  pub one_left : (n : ℕ) (d d₀ : BoardIo) (w : Bool) → f < e → line_answered d w ≡ answered_unless false (next n) (take (e - f) (drop f b)) d₀
+      → d ≡ lines_on (next n) (last_line (drop from (take end b))) d₀
   unfolding lines_on
-  one_left n i d d₀ o o' k w h g j x =
-      ap (λ (y : Output). board_io d (printout y k)) x
-      ∙ ap totals_on
-      (ap (λ (y : LineAnswered). y.board_io) j ∙ ap (λ (y : ℕ). line_on y t d₀) g ∙ go t (omega (arith, part_length b from end e f le lf, lf.1, h))
-      ∙ ap (λ (s : List ℕ). lines_on (next n) (last_line s) d₀) (part b from end e f le lf))
+  one_left n d d₀ w h j =
+      ap (λ (y : LineAnswered). y.board_io) j
+      ∙ go (take (e - f) (drop f b)) (omega (arith, part_length b from end e f le lf, lf.1, h))
+      ∙ ap (λ (s : List ℕ). lines_on (next n) (last_line s) d₀) (part b from end e f le lf)
     where
-      t : List ℕ
-      t = take (e - f) (drop f b)
-
       go : (s : List ℕ) → 0 < length s → line_on (next n) s d₀ ≡ lines_on (next n) (last_line s) d₀
       go [] p = absurd (omega arith)
       go (y ∷ s) p = refl
+
+-- and the totals under it
+pub finished : (d : BoardIo) (b : Board) (o o' : Printout) → board_io b o ≡ d → o' ≡ totalled o → board_io b o' ≡ totals_on d
+finished d b o o' e h = ap (board_io b) h ∙ ap totals_on e

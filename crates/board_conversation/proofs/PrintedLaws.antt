@@ -1,16 +1,18 @@
 -- What a conversation prints, line by line: a line of input prints nothing, or one line of digits.
 -- Assumes nothing.
 use Rattle.std.proofs.Common.{◌≡◌, ℕ, zero, suc, Bool, true, false, List, [], ◌∷◌, ◌++◌, sym, refl, ap, ◌∙◌, subst, append_assoc}
+use Rattle.std.specs.Prelude.{Option, Some, None}
 use Rattle.word.proofs.ListLaws.{Each}
 use Rattle.machine.specs.Registers.{set_register}
 use Rattle.run_spec.specs.Run.{Board, run}
 use Rattle.board_lines.specs.declared.Frame.{Frame}
-use Rattle.board_lines.specs.declared.Frame.TheVariants.{Set, Store, Run, Confined, Bad}
+use Rattle.board_lines.specs.declared.Frame.TheVariants.{Set, Store, Run, Confined}
 use Rattle.board_lines.specs.Lines.{frame_of, malformed_line}
 use Rattle.board_lines.specs.Stores.{frame_store}
 use Rattle.board_lines.specs.Answers.{refused_line, unless_done}
 use Rattle.lines.specs.Texts.{lines_of, next}
-use Rattle.board_lines.specs.Printouts.{Tally, lines_added}
+use Rattle.board_lines.specs.declared.Tally.{Tally}
+use Rattle.board_lines.specs.Printouts.{lines_added}
 use Rattle.lines.proofs.TextLaws.{unended, LineText, no_text, lines_after, line_lines}
 use Rattle.board_lines.proofs.TotalsLaws.{refused_text, ran_text, added_after}
 use Rattle.board_conversation.specs.Conversation.{has_run, frame_answer, line_answer, conversation}
@@ -26,13 +28,13 @@ module _ (P : List ℕ → Type 0) where
     run_text : (confined : Bool) (budget level : ℕ) (b : Board) → LineText P (has_run (run confined budget level b)).printed
     run_text confined budget level b = ran_text _ _ _ _ _ P (ran confined budget level b)
 
-    frame_text : (n : ℕ) (s : List ℕ) (b : Board) (f : Frame) → LineText P (frame_answer n s b f).printed
+    frame_text : (n : ℕ) (s : List ℕ) (b : Board) (f : Option Frame) → LineText P (frame_answer n s b f).printed
     unfolding frame_answer
-    frame_text n s b (Set place word) = unless_text n (set_register b.cpu.bank place word).refusal
-    frame_text n s b (Store address) = unless_text n (frame_store s b.memory address).refusal
-    frame_text n s b (Run budget level) = run_text false budget level b
-    frame_text n s b (Confined budget level) = run_text true budget level b
-    frame_text n s b Bad = refused_text malformed_line n P (refused malformed_line n)
+    frame_text n s b (Some (Set place word)) = unless_text n (set_register b.cpu.bank place word).refusal
+    frame_text n s b (Some (Store address)) = unless_text n (frame_store s b.memory address).refusal
+    frame_text n s b (Some (Run budget level)) = run_text false budget level b
+    frame_text n s b (Some (Confined budget level)) = run_text true budget level b
+    frame_text n s b None = refused_text malformed_line n P (refused malformed_line n)
 
     -- before a text whose lines are in P
     pub conversation_lines : (n : ℕ) (l : List (List ℕ)) (b : Board) (u : List ℕ) → Each P (lines_of u)

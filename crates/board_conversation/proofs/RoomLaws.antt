@@ -1,20 +1,22 @@
 -- No answer is left out where the buffer has thirteen bytes for each byte that was read.
 -- Assumes nothing.
 use Rattle.std.proofs.Common.{◌≡◌, ℕ, zero, suc, ◌+◌, ◌*◌, ◌≤◌, Bool, true, false, ◌&&◌, eqb, List, [], ◌∷◌, ◌++◌, length, sym, refl, ap, ◌∙◌, add-zero, arith, length-append}
+use Rattle.std.specs.Prelude.{Option, Some, None}
 use Rattle.word.proofs.CaseLaws.{by_test}
 use Rattle.run_spec.specs.Run.{Board}
 use Rattle.machine.specs.Registers.{set_register}
 use Rattle.hex_digits.specs.Output.{Output, output, written}
 use Rattle.hex_digits.proofs.OutputLaws.{length_written, on_output, room_printed}
 use Rattle.board_lines.specs.declared.Frame.{Frame}
-use Rattle.board_lines.specs.declared.Frame.TheVariants.{Set, Store, Run, Confined, Bad}
+use Rattle.board_lines.specs.declared.Frame.TheVariants.{Set, Store, Run, Confined}
 use Rattle.board_lines.specs.Lines.{is_length, frame_of}
 use Rattle.board_lines.specs.Stores.{frame_store}
 use Rattle.board_lines.proofs.FrameLaws.{frame_length, bad_length}
 use Rattle.board_lines.specs.Answers.{unless_done}
 use Rattle.lines.specs.Texts.{lines_of, next, onto_ended, ended_lines, last_line}
 use Rattle.board_lines.specs.Totals.{totals_line}
-use Rattle.board_lines.specs.Printouts.{Tally, totals_at, Printout, printout, lines_added}
+use Rattle.board_lines.specs.declared.Tally.{Tally}
+use Rattle.board_lines.specs.Printouts.{totals_at, Printout, printout, lines_added}
 use Rattle.board_lines.proofs.TotalsLaws.{tallied_room}
 use Rattle.board_conversation.specs.Conversation.{Answered, line_answer, frame_answer, conversation}
 use Rattle.board_conversation.specs.Code.{BoardIo, board_io}
@@ -28,15 +30,15 @@ unless_short : (n r : ℕ) → length (unless_done n r) ≤ 13
 unless_short n zero = omega arith
 unless_short n (suc r) = omega arith
 
-frame_short : (n : ℕ) (s : List ℕ) (b : Board) (f : Frame) → length (frame_answer n s b f).printed ≤ 31
+frame_short : (n : ℕ) (s : List ℕ) (b : Board) (f : Option Frame) → length (frame_answer n s b f).printed ≤ 31
 unfolding frame_answer
-frame_short n s b (Set p v) = omega (arith, unless_short n (set_register b.cpu.bank p v).refusal)
-frame_short n s b (Store a) = omega (arith, unless_short n (frame_store s b.memory a).refusal)
-frame_short n s b (Run k l) = omega arith
-frame_short n s b (Confined k l) = omega arith
-frame_short n s b Bad = omega arith
+frame_short n s b (Some (Set p v)) = omega (arith, unless_short n (set_register b.cpu.bank p v).refusal)
+frame_short n s b (Some (Store a)) = omega (arith, unless_short n (frame_store s b.memory a).refusal)
+frame_short n s b (Some (Run k l)) = omega arith
+frame_short n s b (Some (Confined k l)) = omega arith
+frame_short n s b None = omega arith
 
-bad_short : (n : ℕ) (s : List ℕ) (b : Board) → length (frame_answer n s b Bad).printed ≤ 13
+bad_short : (n : ℕ) (s : List ℕ) (b : Board) → length (frame_answer n s b None).printed ≤ 13
 unfolding frame_answer
 bad_short n s b = omega arith
 

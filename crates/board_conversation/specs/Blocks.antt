@@ -1,8 +1,8 @@
 -- A block of input: the lines that end in it, those of them that are answered together, and where the rest begins.
 -- Assumes nothing.
-use Rattle.std.specs.Prelude.{ℕ, Bool, true, false, cond, ◌&&◌, List, [], ◌∷◌, drop, nat_le}
+use Rattle.std.specs.Prelude.{ℕ, Bool, true, false, cond, ◌&&◌, List, [], ◌∷◌, drop, nat_le, Option, Some, None}
 use Rattle.board_lines.specs.declared.Frame.{Frame}
-use Rattle.board_lines.specs.declared.Frame.TheVariants.{Set, Store, Run, Confined, Bad}
+use Rattle.board_lines.specs.declared.Frame.TheVariants.{Set, Store, Run, Confined}
 use Rattle.board_lines.specs.Lines.{frame_of}
 use Rattle.lines.specs.Texts.{next, last_of, ends_line, ended_lines, size_of}
 use Rattle.board_conversation.specs.Code.{BoardIo, line_on}
@@ -13,12 +13,12 @@ use Rattle.board_conversation.specs.Code.{BoardIo, line_on}
 abbrev pub many_steps : ℕ
 many_steps = 4096
 
-abbrev pub is_long_run : Frame → Bool
-is_long_run (Set place word) = false
-is_long_run (Store address) = false
-is_long_run (Run budget level) = nat_le many_steps budget
-is_long_run (Confined budget level) = nat_le many_steps budget
-is_long_run Bad = false
+abbrev pub is_long_run : Option Frame → Bool
+is_long_run (Some (Set place word)) = false
+is_long_run (Some (Store address)) = false
+is_long_run (Some (Run budget level)) = nat_le many_steps budget
+is_long_run (Some (Confined budget level)) = nat_le many_steps budget
+is_long_run None = false
 
 -- a line answered on a board, unless it is a long run and others have begun; then it waits
 pub record LineAnswered : Type 0 where

@@ -1,13 +1,13 @@
 -- The conversation of the board program: a board, lines of input, and what is printed (document 01, "The board program and
 -- its frames").
 -- Assumes nothing.
-use Rattle.std.specs.Prelude.{ℕ, true, false, List, [], ◌∷◌, ◌++◌, replicate}
+use Rattle.std.specs.Prelude.{ℕ, true, false, List, [], ◌∷◌, ◌++◌, replicate, Option, Some, None}
 use Rattle.machine.specs.Registers.{pc, psw, Setting, set_register, start_bank}
 use Rattle.machine.specs.Status.{cpu, reg}
 use Rattle.machine.specs.Record.{zero_cache}
 use Rattle.run_spec.specs.Run.{Board, board, RunResult, run}
 use Rattle.board_lines.specs.declared.Frame.{Frame}
-use Rattle.board_lines.specs.declared.Frame.TheVariants.{Set, Store, Run, Confined, Bad}
+use Rattle.board_lines.specs.declared.Frame.TheVariants.{Set, Store, Run, Confined}
 use Rattle.board_lines.specs.Lines.{frame_of, malformed_line}
 use Rattle.board_lines.specs.Stores.{StoreResult, frame_store}
 use Rattle.board_lines.specs.Answers.{refused_line, unless_done, ran_line}
@@ -32,12 +32,12 @@ abbrev pub has_run : RunResult → Answered
 has_run e = answered e.left (ran_line e.steps e.stop e.code (reg e.left.cpu pc) (reg e.left.cpu psw))
 
 -- a frame, in line n; the bytes of frame 02 are the line's
-unfoldable pub frame_answer : ℕ → List ℕ → Board → Frame → Answered
-frame_answer n s b (Set place word) = was_set n b (set_register b.cpu.bank place word)
-frame_answer n s b (Store address) = was_stored n b (frame_store s b.memory address)
-frame_answer n s b (Run budget level) = has_run (run false budget level b)
-frame_answer n s b (Confined budget level) = has_run (run true budget level b)
-frame_answer n s b Bad = answered b (refused_line malformed_line n)
+unfoldable pub frame_answer : ℕ → List ℕ → Board → Option Frame → Answered
+frame_answer n s b (Some (Set place word)) = was_set n b (set_register b.cpu.bank place word)
+frame_answer n s b (Some (Store address)) = was_stored n b (frame_store s b.memory address)
+frame_answer n s b (Some (Run budget level)) = has_run (run false budget level b)
+frame_answer n s b (Some (Confined budget level)) = has_run (run true budget level b)
+frame_answer n s b None = answered b (refused_line malformed_line n)
 
 abbrev pub line_answer : ℕ → List ℕ → Board → Answered
 line_answer n s b = frame_answer n s b (frame_of s)

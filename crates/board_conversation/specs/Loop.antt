@@ -3,10 +3,10 @@
 use Rattle.std.specs.Prelude.{ℕ, Bool, false, cond, List, [], ◌∷◌, ◌++◌, take, drop}
 use Rattle.run_spec.specs.Run.{Board}
 use Rattle.board_conversation.specs.declared.LoopState.{LoopState}
-use Rattle.hex_digits.specs.Output.{printed}
 use Rattle.lines.specs.Texts.{lines_of, next, ends_line, ended_lines, size_of, last_of}
 use Rattle.board_lines.specs.Totals.{totals_line}
-use Rattle.board_lines.specs.Printouts.{Tally, totals_at, Printout, printout, lines_added}
+use Rattle.board_lines.specs.declared.Tally.{Tally}
+use Rattle.board_lines.specs.Printouts.{totals_at, totalled, lines_added}
 use Rattle.board_conversation.specs.Conversation.{Answered, conversation}
 use Rattle.board_conversation.specs.Code.{BoardIo, board_io}
 use Rattle.board_conversation.specs.Blocks.{together, lines_on}
@@ -46,14 +46,11 @@ exchange_of n t d =
 
 -- before the first of them: nothing is there, and no line has been answered
 abbrev pub beginning : LoopState
-beginning = record { from = 0; end = 0; more = false; last = 0; place = 0 }
+beginning = record { from = 0; end = 0; more = false; last = 0 }
 
 -- at the end of input, after the line that is left, the totals of all that was printed
-abbrev pub totals_printed : Printout → Printout
-totals_printed p = printout (printed (totals_line (totals_at p.tally)) p.output) p.tally
-
 abbrev pub totals_on : BoardIo → BoardIo
-totals_on d = board_io d.board (totals_printed d.printout)
+totals_on d = board_io d.board (totalled d.printout)
 
 -- ---- all exchanges
 

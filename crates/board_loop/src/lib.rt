@@ -3,8 +3,9 @@
 // the conversation (`board_conversation::exchanges`), and writes what that answered; no contract can say what is read or written.
 use board_conversation::LoopState;
 use board_conversation::exchanges::{begin, converse, finish};
-use board_lines::totals::start_tally;
-use channels::{Input, receive, send};
+use board_lines::{Printout, Tally};
+use channels::{Failed, receive, send};
+use hex_digits::Output;
 use machine::record::{start_bank, start_cache};
 
 const BLOCK: usize = 32768;
@@ -13,43 +14,43 @@ const BLOCK: usize = 32768;
 // bytes is left.
 const ROOM: usize = 13 * BLOCK;
 
-// Reads behind what is kept, unless a line is left to be answered.
-fn more_input(rt: &HostRuntime, s: LoopState, block: &mut [u8]) -> Input {
+// Reads behind what is kept, unless a line is left to be answered: up to where the block is filled then, or None at the end
+// of input.
+fn more_input(rt: &HostRuntime, s: LoopState, block: &mut [u8]) -> Result<Option<usize>, Failed> {
     if s.more {
-        return Input::Filled(s.end);
+        return Ok(Some(s.end));
     }
     receive(rt, block, s.end)
 }
 
-// A conversation with the board whose memory is lent, until its input ends or a read or a write fails.
-pub fn serve(rt: &HostRuntime, memory: &mut [u8]) {
-    let mut block_space = [0u8; BLOCK];
-    let mut out_space = [0u8; ROOM];
-    let block: &mut [u8] = &mut block_space;
-    let out: &mut [u8] = &mut out_space;
+// Until the input ends, or a read or a write fails.
+fn converse_all(rt: &HostRuntime, memory: &mut [u8], block: &mut [u8], printout: &mut Printout) -> Result<(), Failed> {
     let mut quads = start_cache();
     let mut bank = start_bank();
-    let mut tally = start_tally();
     let mut s = begin();
-    // A proved loop has to end: it counts down from a number that no run uses up.
-    let mut turns = u64::MAX;
-    while 0 < turns {
-        match more_input(rt, s, block) {
-            Input::Filled(end) => {
-                s = converse(
-                    s, end, block, memory, &mut quads, &mut bank, out, &mut tally,
-                );
-            }
-            Input::Ended => {
-                let place = finish(s, block, memory, &mut quads, &mut bank, out, &mut tally);
-                send(rt, out, place);
-                return;
-            }
-            Input::Failed => return,
-        }
-        if !send(rt, out, s.place) {
-            return;
-        }
-        turns = turns - 1;
+    // A proved loop has to end: no run uses up as many turns.
+    for _ in 0..u64::MAX {
+        let Some(end) = more_input(rt, s, block)? else {
+            finish(s, block, memory, &mut quads, &mut bank, printout);
+            return send(rt, &printout.output);
+        };
+        s = converse(s, end, block, memory, &mut quads, &mut bank, printout);
+        send(rt, &printout.output)?;
     }
+    Ok(())
+}
+
+// A conversation with the board whose memory is lent, until its input ends or a read or a write fails.
+pub fn serve(rt: &HostRuntime, memory: &mut [u8]) {
+    let mut block = [0u8; BLOCK];
+    let mut buffer = [0u8; ROOM];
+    let mut printout = Printout {
+        output: Output {
+            buffer: &mut buffer,
+            place: 0,
+        },
+        tally: Tally::start(),
+    };
+    // What failed was reported.
+    let _ = converse_all(rt, memory, &mut block, &mut printout);
 }

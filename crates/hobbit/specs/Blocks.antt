@@ -1,6 +1,8 @@
 -- The blocks that a caller of the C interface lends: seventeen words of registers and what is due, sixty-four of the cache.
 -- Assumes nothing.
-use Rattle.std.specs.Prelude.{ℕ, List}
+use Rattle.std.specs.Prelude.{ℕ, List, Result, Ok, Err}
+use Rattle.refusals.specs.declared.Refusal.{Refusal}
+use Rattle.refusals.specs.Numbers.{number_of}
 use Rattle.machine.specs.Registers.{Bank}
 use Rattle.machine.specs.Cache.{quads_of, flat_of}
 use Rattle.machine.specs.Status.{cpu}
@@ -9,6 +11,7 @@ use Rattle.access_spec.specs.Clauses.{Lent}
 use Rattle.run_spec.specs.Run.{Board, board, RunResult}
 use Rattle.run.specs.Code.{StepResult}
 use Rattle.hobbit.specs.declared.HobbitAnswer.{HobbitAnswer}
+use Rattle.hobbit.specs.declared.HobbitWord.{HobbitWord}
 
 -- the number of this interface, HOBBIT_INTERFACE of the header
 abbrev pub interface : ℕ
@@ -61,3 +64,8 @@ step_answer r b = record { refusal = r; left = b }
 
 abbrev pub step_answer_of : StepResult → StepAnswer
 step_answer_of a = step_answer a.refusal (blocks_of a.left)
+
+-- a register read: 0 and its word, or the refusal and 0
+abbrev pub word_of : Result ℕ Refusal → HobbitWord
+word_of (Ok w) = record { refusal = 0; value = w }
+word_of (Err r) = record { refusal = number_of r; value = 0 }

@@ -1,6 +1,6 @@
 #![tactic(auto)]
 // What the C interface's symbols call (the crate hobbit_c), over memory and blocks of words that the caller lends;
-// include/hobbit.h says what each does.
+// include/hobbit.h says what each does. Refusals are numbers, and answers blocks and plain structs, since C has no Result.
 // Here: the machine; in `bytes` its memory; in `texts` decoding and encoding.
 pub mod bytes;
 pub mod texts;
@@ -9,10 +9,10 @@ ghost use Rattle.std.specs.Prelude.{◌≡◌};
 ghost use Rattle.machine.specs.Registers.{start_bank, setting, set_register};
 ghost use Rattle.machine.specs.Cache.{quads_of};
 ghost use Rattle.machine.specs.Status.{cpu};
-ghost use Rattle.machine.specs.Record.{zero_cache, reading, reading_of};
+ghost use Rattle.machine.specs.Record.{zero_cache, reading_of};
 ghost use Rattle.run_spec.specs.Run.{run as run_of};
 ghost use Rattle.run.specs.Code.{one_step};
-ghost use Rattle.hobbit.specs.Blocks.{interface, run_answer, run_answer_of, step_answer, step_answer_of, exit_blocks, entry_board_in};
+ghost use Rattle.hobbit.specs.Blocks.{interface, run_answer, run_answer_of, step_answer, step_answer_of, exit_blocks, entry_board_in, word_of};
 
 use machine::assign::{read_register, set_register};
 use machine::cache::{flat, quads};
@@ -86,7 +86,10 @@ pub fn hobbit_start(registers: &mut [u32; 17], cache: &mut [u32; 64])
 pub fn hobbit_set(registers: &mut [u32; 17], place: u32, value: u32) -> u32
     ensures { setting result registers.new ≡ set_register registers.old place value }
 {
-    set_register(registers, place, value)
+    match set_register(registers, place, value) {
+        Ok(()) => 0,
+        Err(refusal) => refusal.number(),
+    }
 }
 
 // A register read: 0 and its word, or refusal 2 and 0.
@@ -99,11 +102,13 @@ pub struct HobbitWord {
 
 // The register at a place of Table 1-1.
 pub fn hobbit_get(registers: &[u32; 17], place: u32) -> HobbitWord
-    ensures { reading result.refusal result.value ≡ reading_of registers.now place }
+    ensures { result ≡ word_of (reading_of registers.now place) }
 {
-    let x = read_register(registers, place);
-    HobbitWord {
-        refusal: x.refusal,
-        value: x.value,
+    match read_register(registers, place) {
+        Ok(value) => HobbitWord { refusal: 0, value },
+        Err(refusal) => HobbitWord {
+            refusal: refusal.number(),
+            value: 0,
+        },
     }
 }

@@ -3,10 +3,10 @@ ghost use Rattle.std.specs.Prelude.{◌≡◌};
 ghost use Rattle.machine.specs.Registers.{start_bank, setting, set_register};
 ghost use Rattle.machine.specs.Cache.{quads_of};
 ghost use Rattle.machine.specs.Status.{cpu};
-ghost use Rattle.machine.specs.Record.{zero_cache, reading, reading_of};
+ghost use Rattle.machine.specs.Record.{zero_cache, reading_of};
 ghost use Rattle.run_spec.specs.Run.{run as run_of};
 ghost use Rattle.run.specs.Code.{one_step};
-ghost use Rattle.hobbit.specs.Blocks.{interface, run_answer, run_answer_of, step_answer, step_answer_of, exit_blocks, entry_board_in};
+ghost use Rattle.hobbit.specs.Blocks.{interface, run_answer, run_answer_of, step_answer, step_answer_of, exit_blocks, entry_board_in, word_of};
 
 use hobbit::{HobbitAnswer, HobbitWord};
 
@@ -60,7 +60,7 @@ pub extern "C" fn hobbit_set(registers: &mut [u32; 17], place: u32, value: u32) 
 
 #[unsafe(no_mangle)]
 pub extern "C" fn hobbit_get(registers: &[u32; 17], place: u32) -> HobbitWord
-    ensures { reading result.refusal result.value ≡ reading_of registers.now place }
+    ensures { result ≡ word_of (reading_of registers.now place) }
 {
     hobbit::hobbit_get(registers, place)
 }

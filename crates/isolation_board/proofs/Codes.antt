@@ -6,6 +6,7 @@ use mathlib.Core.Bool.{Bool, true, false, false≢true}
 use mathlib.Core.List.{List, [], ◌∷◌}
 use native.Mathlib.Omega.{arith}
 use lib.Dec.{lit<}
+use Rattle.std.specs.Prelude.{Option}
 use Rattle.word.specs.Lists.{contains}
 use Rattle.word.proofs.ListLaws.{Each, no_others, ◌also◌, each_at, all_below, contains_below}
 use Rattle.machine.specs.Registers.{pc, psw, good_bank}
@@ -133,7 +134,7 @@ printed_codes confined = answers_codes confined (PrintedStops confined) as_run
 
         line : (line_answer a.number a.line a.board).printed ≡ (has_run ran).printed
         line =
-            ap (λ (f : Frame). (frame_answer a.number a.line a.board f).printed) a.frame
+            ap (λ (f : Option Frame). (frame_answer a.number a.line a.board f).printed) a.frame
             ∙ ap (λ (x : Answered). x.printed) (run_answer_law confined a.number a.line a.board a.budget a.level)
 
         stop_is : ran.stop ≡ reason

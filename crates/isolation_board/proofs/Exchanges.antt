@@ -7,91 +7,87 @@ use mathlib.Core.List.{List, [], ◌∷◌, ◌++◌}
 use Rattle.memory.specs.Bytes.{Memory}
 use Rattle.machine.specs.Status.{Cpu}
 use Rattle.run_spec.specs.Run.{Board, board}
-use Rattle.hex_digits.specs.Output.{output}
-use Rattle.board_lines.specs.Printouts.{Tally, Printout, printout, printout_of}
+use Rattle.board_lines.specs.Printouts.{Printout, totalled}
 use Rattle.lines.specs.Texts.{next, last_line}
-use Rattle.board_conversation.specs.Code.{BoardIo, board_io, board_io_of}
+use Rattle.board_conversation.specs.Code.{BoardIo, board_io, cleared}
 use Rattle.board_conversation.specs.Blocks.{lines_on}
-use Rattle.board_conversation.specs.Loop.{exchange_lines, Exchange, exchange, exchange_of, totals_printed, totals_on}
+use Rattle.board_conversation.specs.Loop.{exchange_lines, Exchange, exchange, exchange_of, totals_on}
 use Rattle.isolation.specs.Isolation.{Apart}
 use Rattle.isolation_board.specs.Calls.{LentBoard, ExchangeCall, Converse, LastCall, Finish}
 use Rattle.isolation_board.specs.Lines.{admits_lines}
 use Rattle.isolation_board.specs.Exchanges.{Between, board_of, bytes_given, bytes_kept, last_bytes, after_exchange, Exchanging, Exchanges}
-use Rattle.isolation_board.specs.Exchanges.{after_all, End, AdmittedExchanges, AdmittedEnd, SameLent, SameExchange, SameExchanges, SameEnd}
+use Rattle.isolation_board.specs.Exchanges.{after_all, End, AdmittedExchanges, AdmittedEnd, SameLent, SameExchange, SameExchanges}
 use Rattle.isolation_board.specs.Exchanges.{begun, ConfinedExchanges, ConfinedEnd}
 use Rattle.isolation_board.proofs.Lines.{Alike, alike}
 use Rattle.isolation_board.proofs.Buffers.{buffers_same}
 
-abbrev pub io_by : LentBoard → ℕ → BoardIo
-io_by s p = board_io_of s.machine s.memory s.buffer s.tally p
+abbrev pub io_by : LentBoard → BoardIo
+io_by s = board_io (board_of s) s.printout
+
+-- as an exchange begins
+abbrev pub cleared_by : LentBoard → BoardIo
+cleared_by s = board_io (board_of s) (cleared s.printout)
 
 abbrev pub exchange_by : ExchangeCall → Exchange
-exchange_by x = exchange (io_by x.left x.answer.place) x.answer.last (bytes_kept x) x.answer.more
+exchange_by x = exchange (io_by x.left) x.answer.last (bytes_kept x) x.answer.more
 
 -- what the exported contracts say: they ask for nothing, and an exchange and the end are those of the definitions
 pub converse_says : (s : LentBoard) (x : ExchangeCall)
-    → Converse s x → exchange_by x ≡ exchange_of x.stream.last (bytes_given x) (io_by s 0)
-converse_says s x h = h tt
+    → Converse s x → exchange_by x ≡ exchange_of x.stream.last (bytes_given x) (cleared_by s)
+converse_says s x h = (h tt).1
 
 pub finish_says : (s : LentBoard) (x : LastCall)
-    → Finish s x → io_by x.left x.place ≡ totals_on (lines_on (next x.stream.last) (last_line (last_bytes x)) (io_by s 0))
-finish_says s x h = h tt
+    → Finish s x → io_by x.left ≡ totals_on (lines_on (next x.stream.last) (last_line (last_bytes x)) (cleared_by s))
+finish_says s x h = (h tt).1
 
 -- on from what the last call left
 pub exchange_said : (b : Between) (r : List ℕ) (x : ExchangeCall) → Exchanging b r x
-    → exchange_by x ≡ exchange_of b.last (b.kept ++ r) (io_by b.lent 0)
-exchange_said b r x t = converse_says b.lent x t.answers ∙ (λ i. exchange_of (t.number i) (t.bytes i) (io_by b.lent 0))
+    → exchange_by x ≡ exchange_of b.last (b.kept ++ r) (cleared_by b.lent)
+exchange_said b r x t = converse_says b.lent x t.answers ∙ (λ i. exchange_of (t.number i) (t.bytes i) (cleared_by b.lent))
 
 pub end_said : (b : Between) (x : LastCall) → End b x
-    → io_by x.left x.place ≡ totals_on (lines_on (next b.last) (last_line b.kept) (io_by b.lent 0))
+    → io_by x.left ≡ totals_on (lines_on (next b.last) (last_line b.kept) (cleared_by b.lent))
 end_said b x t =
-    finish_says b.lent x t.answers ∙ (λ i. totals_on (lines_on (next (t.number i)) (last_line (t.bytes i)) (io_by b.lent 0)))
+    finish_says b.lent x t.answers ∙ (λ i. totals_on (lines_on (next (t.number i)) (last_line (t.bytes i)) (cleared_by b.lent)))
 
 module _ (H : ℕ → Type 0) (a₀ b₀ : Board) where
   -- both loops are at the same place
   record Level (b d : Between) : Type 0 where
     boards : Alike H a₀ b₀ (board_of b.lent) (board_of d.lent)
-    buffer : b.lent.buffer ≡ d.lent.buffer
-    tally : b.lent.tally ≡ d.lent.tally
+    printout : b.lent.printout ≡ d.lent.printout
     last : b.last ≡ d.last
     kept : b.kept ≡ d.kept
 
-  left_same : (s t : LentBoard) → s.buffer ≡ t.buffer → s.tally ≡ t.tally
+  left_same : (s t : LentBoard) → s.printout ≡ t.printout
       → Alike H a₀ b₀ (board_of s) (board_of t) → SameLent H a₀.memory b₀.memory s t
-  left_same s t e g h =
+  left_same s t e h =
       let w = h.now in
-      record { buffer = e; tally = g; registers = w.registers; others = w.others; first_a = w.first_a; first_b = w.first_b }
+      record { printout = e; registers = w.registers; others = w.others; first_a = w.first_a; first_b = w.first_b }
 
-  -- ---- an exchange, the second side's by the number, the bytes, the buffer and the tally of the first
-
-  abbrev printout_by : LentBoard → Printout
-  printout_by s = printout_of s.buffer s.tally 0
+  -- ---- an exchange, the second side's by the number, the bytes and the printout of the first
 
   abbrev second_io : Between → Between → BoardIo
-  second_io b d = board_io (board_of d.lent) (printout_by b.lent)
-
-  printouts : (b d : Between) → Level b d → printout_by d.lent ≡ printout_by b.lent
-  printouts b d l i = printout (output (sym l.buffer i) 0) (sym l.tally i)
+  second_io b d = board_io (board_of d.lent) (cleared b.lent.printout)
 
   exchange_second : (b d : Between) (r : List ℕ) (y : ExchangeCall) → Level b d → Exchanging d r y
       → exchange_by y ≡ exchange_of b.last (b.kept ++ r) (second_io b d)
   exchange_second b d r y l t =
       exchange_said d r y t
-      ∙ (λ i. exchange_of (sym l.last i) (sym l.kept i ++ r) (board_io (board_of d.lent) (printouts b d l i)))
+      ∙ (λ i. exchange_of (sym l.last i) (sym l.kept i ++ r) (board_io (board_of d.lent) (cleared (sym l.printout i))))
 
   module _ (b d : Between) (r : List ℕ) (x y : ExchangeCall) (l : Level b d) (f : Exchanging b r x) (g : Exchanging d r y)
       (e : admits_lines (next b.last) (exchange_lines (b.kept ++ r)) (board_of b.lent) ≡ true) where
-    told : ((lines_on (next b.last) (exchange_lines (b.kept ++ r)) (io_by b.lent 0)).printout
+    told : ((lines_on (next b.last) (exchange_lines (b.kept ++ r)) (cleared_by b.lent)).printout
         ≡ (lines_on (next b.last) (exchange_lines (b.kept ++ r)) (second_io b d)).printout)
-        × Alike H a₀ b₀ (lines_on (next b.last) (exchange_lines (b.kept ++ r)) (io_by b.lent 0)).board
+        × Alike H a₀ b₀ (lines_on (next b.last) (exchange_lines (b.kept ++ r)) (cleared_by b.lent)).board
         (lines_on (next b.last) (exchange_lines (b.kept ++ r)) (second_io b d)).board
     told =
         buffers_same H a₀ b₀ (next b.last) (exchange_lines (b.kept ++ r)) (board_of b.lent) (board_of d.lent)
-        (printout_by b.lent) l.boards e
+        (cleared b.lent.printout) l.boards e
 
     -- what is the same of the definition is the same of the answers
     of_both : {A : Type 0} (p : Exchange → A)
-        → p (exchange_of b.last (b.kept ++ r) (io_by b.lent 0)) ≡ p (exchange_of b.last (b.kept ++ r) (second_io b d))
+        → p (exchange_of b.last (b.kept ++ r) (cleared_by b.lent)) ≡ p (exchange_of b.last (b.kept ++ r) (second_io b d))
         → p (exchange_by x) ≡ p (exchange_by y)
     of_both p h = ap p (exchange_said b r x f) ∙ h ∙ sym (ap p (exchange_second b d r y l g))
 
@@ -101,25 +97,21 @@ module _ (H : ℕ → Type 0) (a₀ b₀ : Board) where
         let h = ap (λ (z : Exchange). z.board_io.board) (exchange_second b d r y l g) in
         rw (e, h) told.1
 
-    buffer_after : x.left.buffer ≡ y.left.buffer
-    buffer_after = of_both (λ z. z.board_io.printout.output.bytes) (ap (λ (o : Printout). o.output.bytes) told.0)
-
-    tally_after : x.left.tally ≡ y.left.tally
-    tally_after = of_both (λ z. z.board_io.printout.tally) (ap (λ (o : Printout). o.tally) told.0)
+    printout_after : x.left.printout ≡ y.left.printout
+    printout_after = of_both (λ z. z.board_io.printout) told.0
 
     exchange_same : SameExchange H a₀.memory b₀.memory x y
     exchange_same =
         record {
-          place = of_both (λ z. z.board_io.printout.output.place) (ap (λ (o : Printout). o.output.place) told.0);
           last = of_both (λ z. z.last) refl;
           kept = of_both (λ z. z.bytes) refl;
           more = of_both (λ z. z.more) refl;
-          left = left_same x.left y.left buffer_after tally_after boards_after;
+          left = left_same x.left y.left printout_after boards_after;
         }
 
     level_after : Level (after_exchange x) (after_exchange y)
     level_after =
-        record { boards = boards_after; buffer = buffer_after; tally = tally_after; last = exchange_same.last; kept = exchange_same.kept }
+        record { boards = boards_after; printout = printout_after; last = exchange_same.last; kept = exchange_same.kept }
 
   exchanges_same : (b d : Between) (rs : List (List ℕ)) (xs ys : List ExchangeCall) → Level b d
       → AdmittedExchanges b rs xs → Exchanges b rs xs → Exchanges d rs ys
@@ -137,31 +129,27 @@ module _ (H : ℕ → Type 0) (a₀ b₀ : Board) where
   -- ---- the end of input
 
   end_second : (b d : Between) (y : LastCall) → Level b d → End d y
-      → io_by y.left y.place ≡ totals_on (lines_on (next b.last) (last_line b.kept) (second_io b d))
+      → io_by y.left ≡ totals_on (lines_on (next b.last) (last_line b.kept) (second_io b d))
   end_second b d y l t =
       end_said d y t
-      ∙ (λ i. totals_on (lines_on (next (sym l.last i)) (last_line (sym l.kept i)) (board_io (board_of d.lent) (printouts b d l i))))
+      ∙ (λ i. totals_on (lines_on (next (sym l.last i)) (last_line (sym l.kept i)) (board_io (board_of d.lent) (cleared (sym l.printout i)))))
 
   end_same : (b d : Between) (x y : LastCall) → Level b d → AdmittedEnd b → End b x → End d y
-      → SameEnd H a₀.memory b₀.memory x y
-  end_same b d x y l e f g =
-      record {
-        place = ap (λ (z : Printout). z.output.place) printed_alike;
-        left = left_same x.left y.left (ap (λ (z : Printout). z.output.bytes) printed_alike) (ap (λ (z : Printout). z.tally) printed_alike) boards;
-      }
+      → SameLent H a₀.memory b₀.memory x.left y.left
+  end_same b d x y l e f g = left_same x.left y.left printed_alike boards
     where
-      told : ((lines_on (next b.last) (last_line b.kept) (io_by b.lent 0)).printout
+      told : ((lines_on (next b.last) (last_line b.kept) (cleared_by b.lent)).printout
           ≡ (lines_on (next b.last) (last_line b.kept) (second_io b d)).printout)
-          × Alike H a₀ b₀ (lines_on (next b.last) (last_line b.kept) (io_by b.lent 0)).board
+          × Alike H a₀ b₀ (lines_on (next b.last) (last_line b.kept) (cleared_by b.lent)).board
           (lines_on (next b.last) (last_line b.kept) (second_io b d)).board
       told =
           buffers_same H a₀ b₀ (next b.last) (last_line b.kept) (board_of b.lent) (board_of d.lent)
-          (printout_by b.lent) l.boards e
+          (cleared b.lent.printout) l.boards e
 
       -- the last line's answer and the totals after it
-      printed_alike : printout_of x.left.buffer x.left.tally x.place ≡ printout_of y.left.buffer y.left.tally y.place
+      printed_alike : x.left.printout ≡ y.left.printout
       printed_alike =
-          ap (λ (z : BoardIo). z.printout) (end_said b x f) ∙ ap totals_printed told.0
+          ap (λ (z : BoardIo). z.printout) (end_said b x f) ∙ ap totalled told.0
           ∙ sym (ap (λ (z : BoardIo). z.printout) (end_second b d y l g))
 
       boards : Alike H a₀ b₀ (board_of x.left) (board_of y.left)
@@ -171,15 +159,15 @@ module _ (H : ℕ → Type 0) (a₀ b₀ : Board) where
           rw (h, k) told.1
 
 module _ (H : ℕ → Type 0) (a b : Cpu) (m n : Memory) (p : Apart H (board a m) (board b n)) where
-  start : (o : List ℕ) (t : Tally) (i : ℕ) (k : List ℕ) → Level H (board a m) (board b n) (begun a m o t i k) (begun b n o t i k)
-  start o t i k = record { boards = alike H (board a m) (board b n) p; buffer = refl; tally = refl; last = refl; kept = refl }
+  start : (o : Printout) (i : ℕ) (k : List ℕ) → Level H (board a m) (board b n) (begun a m o i k) (begun b n o i k)
+  start o i k = record { boards = alike H (board a m) (board b n) p; printout = refl; last = refl; kept = refl }
 
 pub confined_exchanges : ConfinedExchanges
-confined_exchanges H a b m n p o t i k rs xs ys e f g =
-    (exchanges_same H (board a m) (board b n) (begun a m o t i k) (begun b n o t i k) rs xs ys (start H a b m n p o t i k) e f g).0
+confined_exchanges H a b m n p o i k rs xs ys e f g =
+    (exchanges_same H (board a m) (board b n) (begun a m o i k) (begun b n o i k) rs xs ys (start H a b m n p o i k) e f g).0
 
 pub confined_end : ConfinedEnd
-confined_end H a b m n p o t i k rs xs ys e f g x y c d h =
-    let l = start H a b m n p o t i k in
-    let s = exchanges_same H (board a m) (board b n) (begun a m o t i k) (begun b n o t i k) rs xs ys l e f g in
-    end_same H (board a m) (board b n) (after_all (begun a m o t i k) xs) (after_all (begun b n o t i k) ys) x y s.1 c d h
+confined_end H a b m n p o i k rs xs ys e f g x y c d h =
+    let l = start H a b m n p o i k in
+    let s = exchanges_same H (board a m) (board b n) (begun a m o i k) (begun b n o i k) rs xs ys l e f g in
+    end_same H (board a m) (board b n) (after_all (begun a m o i k) xs) (after_all (begun b n o i k) ys) x y s.1 c d h

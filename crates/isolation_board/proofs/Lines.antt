@@ -6,13 +6,14 @@ use mathlib.Core.Bool.{Bool, true, false, false≢true, cond, ◌&&◌}
 use mathlib.Core.List.{List, [], ◌∷◌, ◌++◌}
 use lib.ListN.{length}
 use lib.Dec.{leb, ltb}
+use Rattle.std.specs.Prelude.{Option, Some, None}
 use Rattle.word.proofs.CaseLaws.{and_left, and_right}
 use Rattle.memory.specs.Bytes.{Memory}
 use Rattle.machine.specs.Registers.{Bank, is_register_place, settable, setting, assigned, set_register, register_refused}
 use Rattle.machine.specs.Status.{Cpu}
 use Rattle.run_spec.specs.Run.{Board, board, run_result, refused, refusal, turn_of, advance, unless_refused, run}
 use Rattle.board_lines.specs.declared.Frame.{Frame}
-use Rattle.board_lines.specs.declared.Frame.TheVariants.{Set, Store, Run, Confined, Bad}
+use Rattle.board_lines.specs.declared.Frame.TheVariants.{Set, Store, Run, Confined}
 use Rattle.board_lines.specs.Lines.{frame_of}
 use Rattle.board_lines.specs.Stores.{byte_count, bytes_stored, store_result, outside_memory, frame_store}
 use Rattle.board_lines.specs.Answers.{ran_line}
@@ -112,14 +113,14 @@ module _ (H : ℕ → Type 0) (a₀ b₀ : Board) where
         → AnsweredAlike (was_set i (board c m) (set_register c.bank p v)) (was_set i (board c n) (set_register c.bank p v))
     set_answered p v g = rw (set_refused c.bank p v g) (unchanged _ h)
 
-    frame_answered : (f : Frame) → admits_frame s (board c m) f ≡ true
+    frame_answered : (f : Option Frame) → admits_frame s (board c m) f ≡ true
         → AnsweredAlike (frame_answer i s (board c m) f) (frame_answer i s (board c n) f)
     unfolding frame_answer
-    frame_answered (Set place word) g = set_answered place word g
-    frame_answered (Store address) g = store_answered address g
-    frame_answered (Run budget level) g = run_answered budget level g
-    frame_answered (Confined budget level) g = confined_answered (record { budget = budget; level = level })
-    frame_answered Bad g = unchanged _ h
+    frame_answered (Some (Set place word)) g = set_answered place word g
+    frame_answered (Some (Store address)) g = store_answered address g
+    frame_answered (Some (Run budget level)) g = run_answered budget level g
+    frame_answered (Some (Confined budget level)) g = confined_answered (record { budget = budget; level = level })
+    frame_answered None g = unchanged _ h
 
   line_answered_law : (i : ℕ) (s : List ℕ) (a b : Board) → Alike a b → admits_frame s a (frame_of s) ≡ true
       → AnsweredAlike (line_answer i s a) (line_answer i s b)

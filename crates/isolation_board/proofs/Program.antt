@@ -10,18 +10,19 @@ use lib.Seq.{take-length, take-append_seam}
 use Rattle.run_spec.specs.Run.{board}
 use Rattle.hex_digits.proofs.OutputLaws.{length_written, printed_front}
 use Rattle.lines.specs.Texts.{lines_of, next, size_of, last_line, whole}
-use Rattle.board_lines.specs.Printouts.{start_tally, lines_added}
+use Rattle.hex_digits.specs.Output.{output}
+use Rattle.board_lines.specs.Printouts.{start_tally, printout, lines_added}
 use Rattle.board_conversation.specs.declared.LoopState.{LoopState}
 use Rattle.board_conversation.specs.Conversation.{Answered, conversation, program_on}
-use Rattle.board_conversation.specs.Code.{BoardIo, board_io_of}
+use Rattle.board_conversation.specs.Code.{BoardIo, board_io}
 use Rattle.board_conversation.specs.Blocks.{lines_on}
 use Rattle.board_conversation.specs.Loop.{exchange_lines, most_carried, Exchange, exchange, exchange_of, beginning, totals_on, streamed}
 use Rattle.board_conversation.proofs.LoopLaws.{end_lines, ending, stream}
 use Rattle.board_conversation.proofs.RoomLaws.{answered_over, exchange_fits, exchange_printed, end_fits, end_printed}
 use Rattle.isolation_board.specs.Calls.{LentBoard, ExchangeCall, LastCall}
-use Rattle.isolation_board.specs.Exchanges.{Between, board_of, bytes_kept, after_exchange, Exchanging, Exchanges, after_all, End, begun}
-use Rattle.isolation_board.specs.Program.{handed, handed_by, handed_last, RoomFor, RoomAtEnd, NoMore, ProgramBegins, ProgramPrints, ProgramServes}
-use Rattle.isolation_board.proofs.Exchanges.{io_by, exchange_by, exchange_said, end_said}
+use Rattle.isolation_board.specs.Exchanges.{Between, board_of, bytes_kept, after_exchange, Exchanging, Exchanges, after_all, End}
+use Rattle.isolation_board.specs.Program.{handed, handed_by, handed_last, first, RoomFor, RoomAtEnd, NoMore, ProgramBegins, ProgramPrints, ProgramServes}
+use Rattle.isolation_board.proofs.Exchanges.{io_by, cleared_by, exchange_by, exchange_said, end_said}
 
 -- what a write is handed of a board's buffer
 front : BoardIo → List ℕ
@@ -29,28 +30,28 @@ front d = take d.printout.output.place d.printout.output.bytes
 
 -- ---- an exchange
 
-module _ (b : Between) (r : List ℕ) (x : ExchangeCall) (f : Exchanging b r x) (h : length (b.kept ++ r) * 13 ≤ length b.lent.buffer) where
+module _ (b : Between) (r : List ℕ) (x : ExchangeCall) (f : Exchanging b r x) (h : length (b.kept ++ r) * 13 ≤ length b.lent.printout.output.bytes) where
   abbrev given : List ℕ
   given = b.kept ++ r
 
   abbrev answers : Answered
   answers = conversation (next b.last) (exchange_lines given) (board_of b.lent)
 
-  left_by : io_by x.left x.answer.place ≡ answered_over answers b.lent.buffer 0 b.lent.tally
+  left_by : io_by x.left ≡ answered_over answers b.lent.printout.output.bytes 0 b.lent.printout.tally
   left_by =
       ap (λ (z : Exchange). z.board_io) (exchange_said b r x f)
-      ∙ exchange_printed b.last given (board_of b.lent) b.lent.buffer b.lent.tally h
+      ∙ exchange_printed b.last given (board_of b.lent) b.lent.printout.output.bytes b.lent.printout.tally h
 
   handed_is : handed x ≡ answers.printed
   unfolding front
   handed_is =
       ap front left_by
-      ∙ printed_front answers.printed b.lent.buffer (omega (arith, h, exchange_fits b.last given (board_of b.lent)))
+      ∙ printed_front answers.printed b.lent.printout.output.bytes (omega (arith, h, exchange_fits b.last given (board_of b.lent)))
 
   -- with what follows
   goes_on : (rs : List (List ℕ)) (t : List ℕ)
-      → t ≡ streamed x.answer.last (bytes_kept x) rs x.left.tally (board_of x.left)
-      → handed x ++ t ≡ streamed b.last b.kept (r ∷ rs) b.lent.tally (board_of b.lent)
+      → t ≡ streamed x.answer.last (bytes_kept x) rs x.left.printout.tally (board_of x.left)
+      → handed x ++ t ≡ streamed b.last b.kept (r ∷ rs) b.lent.printout.tally (board_of b.lent)
   unfolding streamed
   goes_on rs t e =
       let last = ap (λ (z : Exchange). z.last) (exchange_said b r x f) in
@@ -64,17 +65,17 @@ module _ (b : Between) (r : List ℕ) (x : ExchangeCall) (f : Exchanging b r x) 
   one_kept e =
       let said = exchange_said b r x f in
       let kept = ap (λ (z : Exchange). z.bytes) said in
-      rw kept (end_lines b.last given (io_by b.lent 0) (sym (ap (λ (z : Exchange). z.more) said) ∙ e))
+      rw kept (end_lines b.last given (cleared_by b.lent) (sym (ap (λ (z : Exchange). z.more) said) ∙ e))
 
 -- ---- the end
 
 end_handed : (b : Between) (y : LastCall) → End b y → RoomAtEnd b → lines_of b.kept ≡ last_line b.kept
-    → handed_last y ≡ streamed b.last b.kept [] b.lent.tally (board_of b.lent)
+    → handed_last y ≡ streamed b.last b.kept [] b.lent.printout.tally (board_of b.lent)
 unfolding front streamed
 end_handed b y f h e =
-    ap front (end_said b y f ∙ end_printed b.last b.kept (board_of b.lent) b.lent.buffer b.lent.tally h)
-    ∙ printed_front _ b.lent.buffer (omega (arith, h, end_fits b.last b.kept (board_of b.lent) (lines_added (lines_of a.printed) b.lent.tally)))
-    ∙ ap (λ (l : List (List ℕ)). ending b.lent.tally (conversation (next b.last) l (board_of b.lent)).printed) (sym e)
+    ap front (end_said b y f ∙ end_printed b.last b.kept (board_of b.lent) b.lent.printout.output.bytes b.lent.printout.tally h)
+    ∙ printed_front _ b.lent.printout.output.bytes (omega (arith, h, end_fits b.last b.kept (board_of b.lent) (lines_added (lines_of a.printed) b.lent.printout.tally)))
+    ∙ ap (λ (l : List (List ℕ)). ending b.lent.printout.tally (conversation (next b.last) l (board_of b.lent)).printed) (sym e)
   where
     a : Answered
     a = conversation (next b.last) (last_line b.kept) (board_of b.lent)
@@ -91,7 +92,7 @@ settled b r (s ∷ rs) x (y ∷ ys) f h e = settled (after_exchange x) s rs y ys
 
 all_handed : (b : Between) (rs : List (List ℕ)) (xs : List ExchangeCall) (y : LastCall) → Exchanges b rs xs → RoomFor b rs xs
     → lines_of (after_all b xs).kept ≡ last_line (after_all b xs).kept → End (after_all b xs) y → RoomAtEnd (after_all b xs)
-    → handed_by xs ++ handed_last y ≡ streamed b.last b.kept rs b.lent.tally (board_of b.lent)
+    → handed_by xs ++ handed_last y ≡ streamed b.last b.kept rs b.lent.printout.tally (board_of b.lent)
 all_handed b [] [] y f h e g k = end_handed b y g k e
 all_handed b [] (x ∷ xs) y f h e g k = absurd f
 all_handed b (r ∷ rs) [] y f h e g k = absurd f
@@ -107,8 +108,8 @@ whole_after (r ∷ rs) u = ap (λ (t : List ℕ). r ++ t) (whole_after rs u) ∙
 
 begun_handed : (b : Between) (rs : List (List ℕ)) (xs : List ExchangeCall) (u : List ℕ) → Exchanges b rs xs → RoomFor b rs xs
     → handed_by xs
-    ++ streamed (after_all b xs).last (after_all b xs).kept (u ∷ []) (after_all b xs).lent.tally (board_of (after_all b xs).lent)
-    ≡ streamed b.last b.kept (rs ++ (u ∷ [])) b.lent.tally (board_of b.lent)
+    ++ streamed (after_all b xs).last (after_all b xs).kept (u ∷ []) (after_all b xs).lent.printout.tally (board_of (after_all b xs).lent)
+    ≡ streamed b.last b.kept (rs ++ (u ∷ [])) b.lent.printout.tally (board_of b.lent)
 begun_handed b [] [] u f h = refl
 begun_handed b [] (x ∷ xs) u f h = absurd f
 begun_handed b (r ∷ rs) [] u f h = absurd f
@@ -121,7 +122,7 @@ program_begins c m o reads calls f h u =
     ap (take (length (handed_by calls)))
     (ap (program_on (board c m)) (sym (whole_after reads u))
     ∙ sym (stream (reads ++ (u ∷ [])) (board c m))
-    ∙ sym (begun_handed (begun c m o start_tally 0 []) reads calls u f h))
+    ∙ sym (begun_handed (first c m o) reads calls u f h))
     ∙ take-append_seam (handed_by calls) _
 
 -- ---- to the end
@@ -129,17 +130,17 @@ program_begins c m o reads calls f h u =
 pub program_prints : ProgramPrints
 unfolding lines_of
 program_prints c m o reads s =
-    all_handed (begun c m o start_tally 0 []) reads s.calls s.last s.exchanges s.room (kept reads s.calls s.exchanges s.room s.no_more)
+    all_handed (first c m o) reads s.calls s.last s.exchanges s.room (kept reads s.calls s.exchanges s.room s.no_more)
     s.at_end s.room_at_end
     ∙ stream reads (board c m)
   where
-    kept : (rs : List (List ℕ)) (xs : List ExchangeCall) → Exchanges (begun c m o start_tally 0 []) rs xs
-        → RoomFor (begun c m o start_tally 0 []) rs xs → NoMore xs
-        → lines_of (after_all (begun c m o start_tally 0 []) xs).kept ≡ last_line (after_all (begun c m o start_tally 0 []) xs).kept
+    kept : (rs : List (List ℕ)) (xs : List ExchangeCall) → Exchanges (first c m o) rs xs
+        → RoomFor (first c m o) rs xs → NoMore xs
+        → lines_of (after_all (first c m o) xs).kept ≡ last_line (after_all (first c m o) xs).kept
     kept [] [] f h e = refl
     kept [] (x ∷ xs) f h e = absurd f
     kept (r ∷ rs) [] f h e = absurd f
-    kept (r ∷ rs) (x ∷ xs) f h e = settled (begun c m o start_tally 0 []) r rs x xs f h e
+    kept (r ∷ rs) (x ∷ xs) f h e = settled (first c m o) r rs x xs f h e
 
 -- ---- calls that the contracts allow
 
@@ -148,22 +149,22 @@ program_serves p c m o input e h g =
     record {
       calls = call ∷ [];
       last = last_call;
-      exchanges = (record { number = refl; bytes = take-length input; answers = λ _. exchange_allowed }, tt);
+      exchanges = (record { number = refl; bytes = take-length input; answers = λ _. (refl, exchange_allowed) }, tt);
       room = (h, tt);
       no_more = e;
-      at_end = record { number = refl; bytes = refl; answers = λ _. refl };
+      at_end = record { number = refl; bytes = refl; answers = λ _. (refl, refl) };
       room_at_end = room_left;
     }
   where
     after : Exchange
-    after = exchange_of 0 input (board_io_of c m o start_tally 0)
+    after = exchange_of 0 input (board_io (board c m) (printout (output o.bytes 0) start_tally))
 
     lent_by : BoardIo → LentBoard
-    lent_by d = record { machine = d.board.cpu; memory = d.board.memory; buffer = d.printout.output.bytes; tally = d.printout.tally }
+    lent_by d = record { machine = d.board.cpu; memory = d.board.memory; printout = d.printout }
 
     state : LoopState
     state =
-        record { from = 0; end = length after.bytes; more = after.more; last = after.last; place = after.board_io.printout.output.place }
+        record { from = 0; end = length after.bytes; more = after.more; last = after.last }
 
     call : ExchangeCall
     call =
@@ -177,25 +178,25 @@ program_serves p c m o input e h g =
           left = lent_by after.board_io;
         }
 
-    exchange_allowed : exchange_by call ≡ exchange_of 0 (take (length input) input) (board_io_of c m o start_tally 0)
+    exchange_allowed : exchange_by call ≡ exchange_of 0 (take (length input) input) (board_io (board c m) (printout (output o.bytes 0) start_tally))
     exchange_allowed =
         ap (λ (t : List ℕ). exchange after.board_io after.last t after.more) (take-length after.bytes)
-        ∙ ap (λ (t : List ℕ). exchange_of 0 t (board_io_of c m o start_tally 0)) (sym (take-length input))
+        ∙ ap (λ (t : List ℕ). exchange_of 0 t (board_io (board c m) (printout (output o.bytes 0) start_tally))) (sym (take-length input))
 
     over : BoardIo
     over =
         totals_on
-        (lines_on (next after.last) (last_line (take (length after.bytes) after.bytes)) (io_by (lent_by after.board_io) 0))
+        (lines_on (next after.last) (last_line (take (length after.bytes) after.bytes)) (cleared_by (lent_by after.board_io)))
 
     last_call : LastCall
-    last_call = record { places = p; stream = state; block = after.bytes; place = over.printout.output.place; left = lent_by over }
+    last_call = record { places = p; stream = state; block = after.bytes; left = lent_by over }
 
     room_left : suc (length (take (length after.bytes) after.bytes)) * 13 + 27 ≤ length after.board_io.printout.output.bytes
     room_left =
         let rest = drop (size_of (exchange_lines input)) input in
         let whole-rest = ap length (take-length after.bytes) in
         let kept : length after.bytes ≡ length (take most_carried rest) = rw e refl in
-        let same : length after.board_io.printout.output.bytes ≡ length o =
-        ap (λ (d : BoardIo). length d.printout.output.bytes) (exchange_printed 0 input (board c m) o start_tally h)
-        ∙ length_written (conversation 1 (exchange_lines input) (board c m)).printed o 0 in
+        let same : length after.board_io.printout.output.bytes ≡ length o.bytes =
+        ap (λ (d : BoardIo). length d.printout.output.bytes) (exchange_printed 0 input (board c m) o.bytes start_tally h)
+        ∙ length_written (conversation 1 (exchange_lines input) (board c m)).printed o.bytes 0 in
         omega (arith, whole-rest, kept, length-take most_carried rest, same, g)

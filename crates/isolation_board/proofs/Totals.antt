@@ -7,7 +7,7 @@ use lib.Dec.{eqb}
 use Rattle.machine.specs.Registers.{pc, psw}
 use Rattle.machine.specs.Status.{reg}
 use Rattle.run_spec.specs.Run.{refused, run}
-use Rattle.board_lines.specs.Printouts.{runs_word, steps_word, refused_word, added_at, added_if}
+use Rattle.board_lines.specs.Printouts.{run_counted, refusal_added, added_if}
 use Rattle.board_lines.proofs.TotalsLaws.{ran_added}
 use Rattle.invariants.proofs.StopCodes.{run_listed}
 use Rattle.isolation_board.specs.Totals.{RunCounts}
@@ -19,4 +19,4 @@ run_counts confined budget level b k =
     let small = small_stop confined e.code e.stop (run_listed confined budget level b) in
     let whole : e.stop % 256 ≡ e.stop = omega (arith, small) in
     ran_added e.steps e.stop e.code (reg e.left.cpu pc) (reg e.left.cpu psw) k
-    ∙ ap (λ (x : ℕ). added_if (eqb x refused) refused_word 1 (added_at steps_word e.steps (added_at runs_word 1 k))) whole
+    ∙ ap (λ (x : ℕ). added_if (eqb x refused) refusal_added (run_counted e.steps k)) whole

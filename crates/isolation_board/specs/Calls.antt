@@ -17,7 +17,8 @@ use Rattle.hobbit.specs.declared.HobbitAnswer.{HobbitAnswer}
 use Rattle.hobbit.specs.Blocks.{Blocks}
 use Rattle.hobbit.specs.contracts.hobbit_run as hobbit_run
 use Rattle.hobbit.proofs.hobbit_run.Reads as hobbit_run_contract
-use Rattle.board_lines.specs.Printouts.{Tally}
+use Rattle.board_lines.specs.declared.Printout.{Printout as LentPrintout}
+use Rattle.board_lines.specs.Printouts.{Printout}
 use Rattle.board_conversation.specs.declared.LoopState.{LoopState}
 use Rattle.board_conversation.specs.contracts.exchanges.converse as converse
 use Rattle.board_conversation.proofs.exchanges.converse.Reads as converse_contract
@@ -84,24 +85,28 @@ pub record ExchangePlaces : Type 0 where
   pub memory : Reference
   pub cache : Reference
   pub bank : Reference
+  pub printout : Reference
   pub buffer : Reference
-  pub tally : Reference
 
--- the board, the buffer and the tally that a call is lent, and that it leaves
+-- the board and the printout that a call is lent, and that it leaves
 pub record LentBoard : Type 0 where
   pub machine : Cpu
   pub memory : Memory
-  pub buffer : List ℕ
-  pub tally : Tally
+  pub printout : Printout
 
-abbrev pub lent_to : ExchangePlaces → LentBoard → MutBor Memory × (MutBor Cache × (MutBor Bank × (MutBor (List ℕ) × (MutBor Tally × Unit {0}))))
+-- a printout of the code, with its buffer lent
+abbrev pub lent_printout : ExchangePlaces → Printout → LentPrintout
+lent_printout p o =
+    record { output = record { buffer = lent_at p.buffer o.output.bytes; place = o.output.place }; tally = o.tally }
+
+abbrev pub lent_to : ExchangePlaces → LentBoard → MutBor Memory × (MutBor Cache × (MutBor Bank × (MutBor LentPrintout × Unit {0})))
 lent_to p s =
     let cache = lent_at p.cache s.machine.cache in
     let bank = lent_at p.bank s.machine.bank in
-    (lent_at p.memory s.memory, (cache, (bank, (lent_at p.buffer s.buffer, (lent_at p.tally s.tally, tt)))))
+    (lent_at p.memory s.memory, (cache, (bank, (lent_at p.printout (lent_printout p s.printout), tt))))
 
-abbrev pub left_by : LentBoard → Memory × (Cache × (Bank × (List ℕ × (Tally × Unit {0}))))
-left_by s = (s.memory, (s.machine.cache, (s.machine.bank, (s.buffer, (s.tally, tt)))))
+abbrev pub left_by : ExchangePlaces → LentBoard → Memory × (Cache × (Bank × (LentPrintout × Unit {0})))
+left_by p s = (s.memory, (s.machine.cache, (s.machine.bank, (lent_printout p s.printout, tt))))
 
 -- an exchange of the loop: what it was given beside them, its answer, and what it left
 pub record ExchangeCall : Type 0 where
@@ -125,20 +130,19 @@ Converse s x =
     arguments = (x.stream, (x.end, (lent_at x.places.block x.block, lent_to x.places s)))
 
     left : Lasts converse.ended lifetimes arguments
-    left = (tt, (tt, (x.block_left, left_by x.left)))
+    left = (tt, (tt, (x.block_left, left_by x.places x.left)))
 
--- the end of input: what it was given, the place of the buffer that it answered, and what it left
+-- the end of input: what it was given, and what it left
 pub record LastCall : Type 0 where
   pub places : ExchangePlaces
   pub stream : LoopState
   pub block : List ℕ
-  pub place : ℕ
   pub left : LentBoard
 
 abbrev pub Finish : LentBoard → LastCall → Type 0
 Finish s x =
     finish_contract.Asked lifetimes arguments
-    → finish_contract.Learnt lifetimes arguments x.place (at_exit finish.ended lifetimes arguments left)
+    → finish_contract.Learnt lifetimes arguments tt (at_exit finish.ended lifetimes arguments left)
   where
     lifetimes : Lfts 6
     lifetimes = x.places.lifetimes
@@ -147,4 +151,4 @@ Finish s x =
     arguments = (x.stream, (shared_at x.places.block x.block, lent_to x.places s))
 
     left : Lasts finish.ended lifetimes arguments
-    left = (tt, (tt, left_by x.left))
+    left = (tt, (tt, left_by x.places x.left))

@@ -1,7 +1,7 @@
 -- Request (i) of the running code: the stops and codes of runs as `run::running::run_lent` and `hobbit_run` answer them by the
 -- contracts that they export, and as 83 lines show them: one line of kind 03 or 04, and all that the board program prints.
 -- Assumes nothing.
-use Rattle.std.specs.Prelude.{ℕ, ◌<◌, ◌≡◌, Bool, true, false, List, [], length, get_or}
+use Rattle.std.specs.Prelude.{ℕ, ◌<◌, ◌≡◌, Bool, true, false, List, [], length, get_or, Option, Some}
 use Rattle.memory.specs.Bytes.{Memory}
 use Rattle.machine.specs.Status.{Cpu}
 use Rattle.run_spec.specs.Run.{Board, refused, level_not_user, run}
@@ -62,9 +62,9 @@ HobbitAllows =
     (run confined budget level (board_in s.registers s.cache s.memory)).code
 
 -- a line of the board program: frame 04 for a confined run, frame 03 for another
-abbrev pub run_frame : Bool → ℕ → ℕ → Frame
-run_frame true budget level = Confined budget level
-run_frame false budget level = Run budget level
+abbrev pub run_frame : Bool → ℕ → ℕ → Option Frame
+run_frame true budget level = Some (Confined budget level)
+run_frame false budget level = Some (Run budget level)
 
 pub record PrintedStops (confined : Bool) (stop code : ℕ) : Type 0 where
   pub number : ℕ

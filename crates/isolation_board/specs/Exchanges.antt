@@ -5,7 +5,7 @@ use Rattle.std.specs.Prelude.{ℕ, ◌≡◌, true, List, [], ◌∷◌, ◌++�
 use Rattle.memory.specs.Bytes.{Memory}
 use Rattle.machine.specs.Status.{Cpu}
 use Rattle.run_spec.specs.Run.{Board, board}
-use Rattle.board_lines.specs.Printouts.{Tally}
+use Rattle.board_lines.specs.Printouts.{Printout}
 use Rattle.lines.specs.Texts.{next, last_line}
 use Rattle.board_conversation.specs.Loop.{exchange_lines}
 use Rattle.isolation.specs.Sealed.{Agree, HiddenKept}
@@ -15,7 +15,7 @@ use Rattle.isolation_board.specs.Lines.{admits_lines}
 
 -- ---- exchanges, each going on from what the last one left
 
--- between two exchanges: the board, the buffer and the tally, the number of the last line, and the bytes that are kept
+-- between two exchanges: the board and the printout, the number of the last line, and the bytes that are kept
 pub record Between : Type 0 where
   pub lent : LentBoard
   pub last : ℕ
@@ -74,18 +74,17 @@ AdmittedEnd b = admits_lines (next b.last) (last_line b.kept) (board_of b.lent) 
 
 -- ---- what two calls left
 
--- the boards, the buffers and the tallies: equal but for the hidden pages, which hold the bytes of m and of n
+-- the boards, the buffers with the places up to which they are written out, and the tallies: equal but for the hidden pages,
+-- which hold the bytes of m and of n
 pub record SameLent (Hidden : ℕ → Type 0) (m n : Memory) (s t : LentBoard) : Type 0 where
-  pub buffer : s.buffer ≡ t.buffer
-  pub tally : s.tally ≡ t.tally
+  pub printout : s.printout ≡ t.printout
   pub registers : s.machine ≡ t.machine
   pub others : Agree Hidden s.memory t.memory
   pub first_a : HiddenKept Hidden m s.memory
   pub first_b : HiddenKept Hidden n t.memory
 
--- the place up to which the buffer is written out, the number of the last line, what is kept, and whether a line ends in it
+-- the number of the last line, what is kept, and whether a line ends in it
 pub record SameExchange (Hidden : ℕ → Type 0) (m n : Memory) (x y : ExchangeCall) : Type 0 where
-  pub place : x.answer.place ≡ y.answer.place
   pub last : x.answer.last ≡ y.answer.last
   pub kept : bytes_kept x ≡ bytes_kept y
   pub more : x.answer.more ≡ y.answer.more
@@ -97,28 +96,24 @@ SameExchanges Hidden m n [] (y ∷ ys) = ⊥
 SameExchanges Hidden m n (x ∷ xs) [] = ⊥
 SameExchanges Hidden m n (x ∷ xs) (y ∷ ys) = SameExchange Hidden m n x y × SameExchanges Hidden m n xs ys
 
-pub record SameEnd (Hidden : ℕ → Type 0) (m n : Memory) (x y : LastCall) : Type 0 where
-  pub place : x.place ≡ y.place
-  pub left : SameLent Hidden m n x.left y.left
-
 -- ---- the loop
 
-abbrev pub begun : Cpu → Memory → List ℕ → Tally → ℕ → List ℕ → Between
-begun c m o t i k = between (record { machine = c; memory = m; buffer = o; tally = t }) i k
+abbrev pub begun : Cpu → Memory → Printout → ℕ → List ℕ → Between
+begun c m o i k = between (record { machine = c; memory = m; printout = o }) i k
 
 -- for every two boards that are equal but for hidden pages, and every input, however it is read: the same after each exchange
 abbrev pub ConfinedExchanges : Type 1
 ConfinedExchanges =
     (Hidden : ℕ → Type 0) (a b : Cpu) (m n : Memory) → Apart Hidden (board a m) (board b n)
-    → (o : List ℕ) (t : Tally) (i : ℕ) (k : List ℕ) (reads : List (List ℕ)) (xs ys : List ExchangeCall)
-    → AdmittedExchanges (begun a m o t i k) reads xs → Exchanges (begun a m o t i k) reads xs → Exchanges (begun b n o t i k) reads ys
+    → (o : Printout) (i : ℕ) (k : List ℕ) (reads : List (List ℕ)) (xs ys : List ExchangeCall)
+    → AdmittedExchanges (begun a m o i k) reads xs → Exchanges (begun a m o i k) reads xs → Exchanges (begun b n o i k) reads ys
     → SameExchanges Hidden m n xs ys
 
 -- and after the end of input, at which a last line may have no newline and the totals are printed
 abbrev pub ConfinedEnd : Type 1
 ConfinedEnd =
     (Hidden : ℕ → Type 0) (a b : Cpu) (m n : Memory) → Apart Hidden (board a m) (board b n)
-    → (o : List ℕ) (t : Tally) (i : ℕ) (k : List ℕ) (reads : List (List ℕ)) (xs ys : List ExchangeCall)
-    → AdmittedExchanges (begun a m o t i k) reads xs → Exchanges (begun a m o t i k) reads xs → Exchanges (begun b n o t i k) reads ys
-    → (x y : LastCall) → AdmittedEnd (after_all (begun a m o t i k) xs)
-    → End (after_all (begun a m o t i k) xs) x → End (after_all (begun b n o t i k) ys) y → SameEnd Hidden m n x y
+    → (o : Printout) (i : ℕ) (k : List ℕ) (reads : List (List ℕ)) (xs ys : List ExchangeCall)
+    → AdmittedExchanges (begun a m o i k) reads xs → Exchanges (begun a m o i k) reads xs → Exchanges (begun b n o i k) reads ys
+    → (x y : LastCall) → AdmittedEnd (after_all (begun a m o i k) xs)
+    → End (after_all (begun a m o i k) xs) x → End (after_all (begun b n o i k) ys) y → SameLent Hidden m n x.left y.left

@@ -1,10 +1,10 @@
 -- Demand 3 of the board program's lines: what a conversation prints in which every line is a confined run or is refused.
 -- Assumes nothing.
-use Rattle.std.specs.Prelude.{ℕ, ◌≡◌, Bool, true, false, ◌&&◌, List, [], ◌∷◌, ltb}
+use Rattle.std.specs.Prelude.{ℕ, ◌≡◌, Bool, true, false, ◌&&◌, List, [], ◌∷◌, ltb, Option, Some, None}
 use Rattle.machine.specs.Registers.{set_register}
 use Rattle.run_spec.specs.Run.{Board, refusal}
 use Rattle.board_lines.specs.declared.Frame.{Frame}
-use Rattle.board_lines.specs.declared.Frame.TheVariants.{Set, Store, Run, Confined, Bad}
+use Rattle.board_lines.specs.declared.Frame.TheVariants.{Set, Store, Run, Confined}
 use Rattle.board_lines.specs.Lines.{frame_of}
 use Rattle.board_lines.specs.Stores.{frame_store}
 use Rattle.lines.specs.Texts.{lines_of, next}
@@ -13,12 +13,12 @@ use Rattle.isolation.specs.Isolation.{Same, Apart}
 
 -- frames that are "confined runs, refused ones included", or refused: 04; a bad line; 01, 02 and 03 with a number of the
 -- refusals, 03 before its first step
-abbrev pub admits_frame : List ℕ → Board → Frame → Bool
-admits_frame s b (Set place word) = ltb 0 (set_register b.cpu.bank place word).refusal
-admits_frame s b (Store address) = ltb 0 (frame_store s b.memory address).refusal
-admits_frame s b (Run budget level) = ltb 0 (refusal false level b)
-admits_frame s b (Confined budget level) = true
-admits_frame s b Bad = true
+abbrev pub admits_frame : List ℕ → Board → Option Frame → Bool
+admits_frame s b (Some (Set place word)) = ltb 0 (set_register b.cpu.bank place word).refusal
+admits_frame s b (Some (Store address)) = ltb 0 (frame_store s b.memory address).refusal
+admits_frame s b (Some (Run budget level)) = ltb 0 (refusal false level b)
+admits_frame s b (Some (Confined budget level)) = true
+admits_frame s b None = true
 
 -- each line on the board that the lines before it left, the first of them line n; only one machine is judged
 abbrev pub admits_lines : ℕ → List (List ℕ) → Board → Bool

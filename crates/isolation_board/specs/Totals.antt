@@ -4,12 +4,13 @@
 use Rattle.std.specs.Prelude.{ℕ, ◌≡◌, Bool, eqb}
 use Rattle.run_spec.specs.Run.{Board, refused, run}
 use Rattle.lines.specs.Texts.{lines_of}
-use Rattle.board_lines.specs.Printouts.{Tally, runs_word, steps_word, refused_word, added_at, added_if, lines_added}
+use Rattle.board_lines.specs.declared.Tally.{Tally}
+use Rattle.board_lines.specs.Printouts.{run_counted, refusal_added, added_if, lines_added}
 use Rattle.board_conversation.specs.Conversation.{has_run}
 
 abbrev pub RunCounts : Type 0
 RunCounts =
     (confined : Bool) (budget level : ℕ) (b : Board) (k : Tally)
     → lines_added (lines_of (has_run (run confined budget level b)).printed) k
-    ≡ added_if (eqb (run confined budget level b).stop refused) refused_word 1
-    (added_at steps_word (run confined budget level b).steps (added_at runs_word 1 k))
+    ≡ added_if (eqb (run confined budget level b).stop refused) refusal_added
+    (run_counted (run confined budget level b).steps k)

@@ -11,6 +11,7 @@ use Rattle.mmu.specs.Walk.{segment_of, segment, nonpaged_of, page_of, walk_from,
 use Rattle.machine.specs.Registers.{set_register, start_bank, unreserved, config, psw, msp}
 use Rattle.machine.specs.Registers as registers
 use Rattle.machine.specs.Record.{reading_of}
+use Rattle.hobbit.specs.Blocks.{word_of}
 use Rattle.witnesses.specs.Boards.{is, all, page, word}
 
 -- ---- registers
@@ -53,9 +54,9 @@ settings =
     ∷ is (registers.word (set_register stacked 1 0x1_0000).bank config) 0x1_0000 0
     ∷ is (registers.word (set_register stacked 1 0x1_0000).bank psw) 0 0x1_0000
     -- another register read than the one named, and an unknown one
-    ∷ is (reading_of stacked 3).value 0x3B 0
-    ∷ is (reading_of stacked 9).value 0x600 0x3B
-    ∷ is (reading_of stacked 14).refusal 2 0
+    ∷ is (word_of (reading_of stacked 3)).value 0x3B 0
+    ∷ is (word_of (reading_of stacked 9)).value 0x600 0x3B
+    ∷ is (word_of (reading_of stacked 14)).refusal 2 0
     ∷ []
 
 -- ---- memory
