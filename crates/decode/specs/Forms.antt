@@ -1,15 +1,15 @@
 -- The order in which the code decides: each way is taken at one place only, with or without a prefix, in three or five
 -- parcels. The public contracts cite isa's definitions; that these agree with them is proved.
 -- Assumes nothing.
-use Rattle.std.specs.Prelude.{ℕ, ◌-◌, ◌/◌, ◌%◌, Bool, true, false, cond, ltb, eqb}
+use Rattle.std.specs.Prelude.{ℕ, ◌-◌, ◌/◌, ◌%◌, Bool, true, false, cond, ltb, eqb, Err}
 use Rattle.isa.specs.declared.Mode.{Mode}
 use Rattle.isa.specs.declared.Mode.TheVariants.{AbsoluteByte, AbsoluteUbyte, AbsoluteHalf, AbsoluteUhalf, StackByte, StackUbyte, StackHalf, StackUhalf, IndirectByte, IndirectUbyte, IndirectHalf, IndirectUhalf, AbsoluteWord, StackWord, IndirectWord, Immediate}
 use Rattle.isa.specs.declared.Wide.{Wide}
 use Rattle.isa.specs.declared.Wide.TheVariants.{Three, Five}
 use Rattle.isa.specs.declared.Text.{Text}
-use Rattle.isa.specs.declared.Decoded.{Decoded}
-use Rattle.isa.specs.declared.Decoded.TheVariants.{Illegal, Truncated}
+use Rattle.isa.specs.declared.Undecoded.TheVariants.{Illegal, Truncated}
 use Rattle.isa.specs.Decode.{joined, decode_short, decode_wide}
+use Rattle.isa.specs.Answers.{Decoded}
 
 -- modes whose 16 bits are not extended
 abbrev pub absolute_of : Mode → Bool
@@ -51,11 +51,11 @@ rest_of true t =
 rest_of false t = t
 
 abbrev pub short_rest : Bool → ℕ → Decoded
-short_rest true p = Illegal
+short_rest true p = Err Illegal
 short_rest false p = decode_short p
 
 unfoldable pub decode_rest : Bool → Text → Decoded
 decode_rest pre t =
-    cond (ltb t.count 1) Truncated
+    cond (ltb t.count 1) (Err Truncated)
     (cond (ltb t.p0 0x8000) (short_rest pre t.p0)
     (decode_wide pre (t.count - 1) t.p0 t.p1 t.p2 t.p3 t.p4))

@@ -1,6 +1,5 @@
 // Dyadics of three and five parcels: 10 or 11, a six-bit opcode, two four-bit modes, two operand fields.
 ghost use Rattle.std.specs.Prelude.{◌≡◌};
-ghost use Rattle.isa.specs.declared.DyadicEntry.TheVariants as entry;
 ghost use Rattle.isa.specs.Decode.{extended, operand_value, operand_found, mode_entry, dyadic_answer, both_found, decode_dyadic};
 ghost use Rattle.decode.specs.Forms.{absolute_of};
 
@@ -10,8 +9,8 @@ use decode_tables::modes::{find_general, find_prefixed};
 use decode_tables::wide::find_dyadic;
 use isa::lengths::with_length;
 use isa::{
-    Decoded, DyadicEntry, DyadicInstruction, DyadicRow, Instruction, Mode, ModeEntry, Operand,
-    OperandFound, Rule, UNIMPLEMENTED_VECTOR, Wide,
+    Decoded, DyadicEntry, DyadicInstruction, Entry, Instruction, Mode, ModeEntry, Operand, Rule,
+    UNIMPLEMENTED_VECTOR, Undecoded, Wide,
 };
 use word::widths::extend;
 
@@ -19,24 +18,14 @@ use word::widths::extend;
 fn is_absolute(m: Mode) -> bool
     ensures { result ≡ absolute_of m }
 {
-    match m {
-        Mode::AbsoluteByte => true,
-        Mode::AbsoluteUbyte => true,
-        Mode::AbsoluteHalf => true,
-        Mode::AbsoluteUhalf => true,
-        Mode::StackByte => false,
-        Mode::StackUbyte => false,
-        Mode::StackHalf => false,
-        Mode::StackUhalf => false,
-        Mode::IndirectByte => false,
-        Mode::IndirectUbyte => false,
-        Mode::IndirectHalf => false,
-        Mode::IndirectUhalf => false,
-        Mode::AbsoluteWord => true,
-        Mode::StackWord => false,
-        Mode::IndirectWord => false,
-        Mode::Immediate => false,
-    }
+    matches!(
+        m,
+        Mode::AbsoluteByte
+            | Mode::AbsoluteUbyte
+            | Mode::AbsoluteHalf
+            | Mode::AbsoluteUhalf
+            | Mode::AbsoluteWord
+    )
 }
 
 fn extend_half(m: Mode, x: u32) -> u32
@@ -56,13 +45,13 @@ pub fn value(wide: Wide, m: Mode, x: u32) -> u32
 }
 
 // 1.7: of a register's number only bits 3:0 count.
-fn of_mode(wide: Wide, e: ModeEntry, x: u32) -> OperandFound
+fn of_mode(wide: Wide, e: ModeEntry, x: u32) -> Option<Operand>
     ensures { result ≡ operand_found wide e x }
 {
     match e {
-        ModeEntry::General(m) => OperandFound::Is(Operand::General(m, value(wide, m, x))),
-        ModeEntry::Register => OperandFound::Is(Operand::Register(low(x, 4))),
-        ModeEntry::Unlisted => OperandFound::Nothing,
+        ModeEntry::General(m) => Some(Operand::General(m, value(wide, m, x))),
+        ModeEntry::Register => Some(Operand::Register(low(x, 4))),
+        ModeEntry::Unlisted => None,
     }
 }
 
@@ -76,65 +65,47 @@ fn find_mode(prefix: bool, code: u32) -> ModeEntry
     }
 }
 
-fn find_operand(wide: Wide, prefix: bool, code: u32, x: u32) -> OperandFound
+fn find_operand(wide: Wide, prefix: bool, code: u32, x: u32) -> Option<Operand>
     ensures { result ≡ operand_found wide (mode_entry prefix code) x }
 {
     of_mode(wide, find_mode(prefix, code), x)
 }
 
-fn of_row(r: DyadicRow, rule: Rule, wide: Wide, prefix: bool, s: Operand, d: Operand) -> Decoded
-    ensures { result ≡ dyadic_answer (entry.Row r rule) wide prefix s d }
-{
-    if legal(rule, s, d) {
-        with_length(Instruction::Dyadic(DyadicInstruction {
-            row: r,
-            wide,
-            prefix,
-            source: s,
-            destination: d,
-        }))
-    } else {
-        Decoded::Illegal
-    }
-}
-
-// 1.11.4: with an illegal combination of modes an unimplemented opcode is illegal.
-fn of_gap(wide: Wide, prefix: bool, s: Operand, d: Operand) -> Decoded
-    ensures { result ≡ dyadic_answer entry.Unimplemented wide prefix s d }
-{
-    if legal(Rule::OneRegister, s, d) {
-        Decoded::Unimplemented(UNIMPLEMENTED_VECTOR)
-    } else {
-        Decoded::Illegal
-    }
-}
-
+// Of a row whose rule the operands do not meet no instruction; 1.11.4: nor of an unimplemented opcode with an illegal
+// combination of modes.
 fn of_entry(e: DyadicEntry, wide: Wide, prefix: bool, s: Operand, d: Operand) -> Decoded
     ensures { result ≡ dyadic_answer e wide prefix s d }
 {
     match e {
-        DyadicEntry::Row(r, rule) => of_row(r, rule, wide, prefix, s, d),
-        DyadicEntry::Unimplemented => of_gap(wide, prefix, s, d),
-        DyadicEntry::Unlisted => Decoded::Illegal,
+        Entry::Row(row, rule) if legal(rule, s, d) => {
+            with_length(Instruction::Dyadic(DyadicInstruction {
+                row,
+                wide,
+                prefix,
+                source: s,
+                destination: d,
+            }))
+        }
+        Entry::Unimplemented if legal(Rule::OneRegister, s, d) => {
+            Err(Undecoded::Unimplemented(UNIMPLEMENTED_VECTOR))
+        }
+        _ => Err(Undecoded::Illegal),
     }
 }
 
+// Without an operand, as with a mode that is in no table, there is no instruction.
 fn of_operands(
     e: DyadicEntry,
     wide: Wide,
     prefix: bool,
-    s: OperandFound,
-    d: OperandFound,
+    s: Option<Operand>,
+    d: Option<Operand>,
 ) -> Decoded
     ensures { result ≡ both_found e wide prefix s d }
 {
-    match s {
-        OperandFound::Is(source) => match d {
-            OperandFound::Is(destination) => of_entry(e, wide, prefix, source, destination),
-            OperandFound::Nothing => Decoded::Illegal,
-        },
-        OperandFound::Nothing => Decoded::Illegal,
-    }
+    let source = s.ok_or(Undecoded::Illegal)?;
+    let destination = d.ok_or(Undecoded::Illegal)?;
+    of_entry(e, wide, prefix, source, destination)
 }
 
 // At either length: the opcode, the source's mode, the destination's; x and y are the operand fields.

@@ -7,29 +7,22 @@ mod monadic;
 pub mod short;
 pub mod wide;
 
-ghost use Rattle.std.specs.Prelude.{◌≡◌, ◌-◌, get_or};
+ghost use Rattle.std.specs.Prelude.{◌≡◌, get_or};
 ghost use Rattle.isa.specs.Answers.{decoded_numbers};
 ghost use Rattle.isa.specs.Decode.{decode_of, text_of};
 ghost use Rattle.decode.specs.Forms.{rest_of, short_rest, decode_rest};
 
 use crate::short::decode_short;
 use crate::wide::decode_wide;
-use isa::{CPU_PREFIX, Decoded, Text};
+use isa::{CPU_PREFIX, Decoded, Text, Undecoded};
 use word::fields::form_bits;
-
-// How many parcels stand after the first.
-fn after_first(count: usize) -> usize
-    ensures { result ≡ count - 1 }
-{
-    if count < 1 { 0 } else { count - 1 }
-}
 
 fn without_prefix(prefix: bool, t: Text) -> Text
     ensures { result ≡ rest_of prefix t }
 {
     if prefix {
         Text {
-            count: after_first(t.count),
+            count: t.count.saturating_sub(1),
             p0: t.p1,
             p1: t.p2,
             p2: t.p3,
@@ -47,7 +40,7 @@ fn decode_parcel(prefix: bool, p: u16) -> Decoded
     ensures { result ≡ short_rest prefix p }
 {
     if prefix {
-        Decoded::Illegal
+        Err(Undecoded::Illegal)
     } else {
         decode_short(p)
     }
@@ -57,13 +50,12 @@ fn decode_rest(prefix: bool, t: Text) -> Decoded
     ensures { result ≡ decode_rest prefix t }
 {
     if t.count < 1 {
-        Decoded::Truncated
+        return Err(Undecoded::Truncated);
+    }
+    if form_bits(t.p0) < 2 {
+        decode_parcel(prefix, t.p0)
     } else {
-        if form_bits(t.p0) < 2 {
-            decode_parcel(prefix, t.p0)
-        } else {
-            decode_wide(prefix, t.count - 1, t.p0, t.p1, t.p2, t.p3, t.p4)
-        }
+        decode_wide(prefix, t.count - 1, t.p0, t.p1, t.p2, t.p3, t.p4)
     }
 }
 
@@ -72,17 +64,16 @@ pub fn decode_text(t: Text) -> Decoded
     ensures { decoded_numbers result ≡ decoded_numbers (decode_of t) }
 {
     if t.count < 1 {
-        Decoded::Truncated
-    } else {
-        let prefix = t.p0 == CPU_PREFIX;
-        decode_rest(prefix, without_prefix(prefix, t))
+        return Err(Undecoded::Truncated);
     }
+    let prefix = t.p0 == CPU_PREFIX;
+    decode_rest(prefix, without_prefix(prefix, t))
 }
 
 fn parcel(s: &[u16], i: usize) -> u16
     ensures { result ≡ get_or s.now i 0 }
 {
-    if i < s.len() { s[i] } else { 0 }
+    s.get(i).copied().unwrap_or(0)
 }
 
 // A lent text of any length: its first six parcels, as far as they go.

@@ -1,8 +1,6 @@
 // Monadics of three parcels: opcode 0, the mode in bits 7:4, the subcode in 3:0, an operand of 32 bits.
-ghost use Rattle.std.specs.Prelude.{◌≡◌, cond, ltb};
-ghost use Rattle.isa.specs.declared.Decoded.{Decoded};
-ghost use Rattle.isa.specs.declared.MonadicModeEntry.TheVariants as place;
-ghost use Rattle.isa.specs.Answers.{unimplemented_vector};
+ghost use Rattle.std.specs.Prelude.{◌≡◌};
+ghost use Rattle.isa.specs.Tables.{monadic_mode_of};
 ghost use Rattle.isa.specs.Decode.{monadic_found, monadic_answer, decode_monadic};
 
 use crate::fields::{last_bits, mode_bits};
@@ -11,58 +9,35 @@ use decode_tables::modes::find_monadic_mode;
 use decode_tables::wide::find_monadic;
 use isa::lengths::with_length;
 use isa::{
-    Decoded, Instruction, MonadicEntry, MonadicInstruction, MonadicMode, MonadicModeEntry,
-    MonadicRow, MonadicRule, UNIMPLEMENTED_VECTOR,
+    Decoded, Entry, Instruction, MonadicEntry, MonadicInstruction, MonadicRow, MonadicRule,
+    UNIMPLEMENTED_VECTOR, Undecoded,
 };
 
-fn of_mode(r: MonadicRow, rule: MonadicRule, prefix: bool, mode: MonadicMode, value: u32) -> Decoded
-    ensures { result ≡ monadic_found r rule prefix (place.Is mode) value }
+// A row with its operand, in a mode that its rule has and with a value that it allows.
+fn of_row(row: MonadicRow, rule: MonadicRule, prefix: bool, code: u32, value: u32) -> Decoded
+    ensures { result ≡ monadic_found row rule prefix (monadic_mode_of rule code) value }
 {
-    if monadic_legal(rule, mode, value) {
-        with_length(Instruction::Monadic(MonadicInstruction {
-            row: r,
-            prefix,
-            mode,
-            value,
-        }))
-    } else {
-        Decoded::Illegal
-    }
-}
-
-fn of_row(
-    r: MonadicRow,
-    rule: MonadicRule,
-    prefix: bool,
-    e: MonadicModeEntry,
-    value: u32,
-) -> Decoded
-    ensures { result ≡ monadic_found r rule prefix e value }
-{
-    match e {
-        MonadicModeEntry::Is(mode) => of_mode(r, rule, prefix, mode, value),
-        MonadicModeEntry::Unlisted => Decoded::Illegal,
+    match find_monadic_mode(rule, code) {
+        Some(mode) if monadic_legal(rule, mode, value) => {
+            with_length(Instruction::Monadic(MonadicInstruction {
+                row,
+                prefix,
+                mode,
+                value,
+            }))
+        }
+        _ => Err(Undecoded::Illegal),
     }
 }
 
 // 1.11.4: an unimplemented subcode is illegal with a mode that is no word's.
-fn of_gap(code: u32) -> Decoded
-    ensures { result ≡ cond (ltb code 0xC) Decoded.Illegal (Decoded.Unimplemented unimplemented_vector) }
-{
-    if code < 0xC {
-        Decoded::Illegal
-    } else {
-        Decoded::Unimplemented(UNIMPLEMENTED_VECTOR)
-    }
-}
-
 fn of_entry(e: MonadicEntry, prefix: bool, code: u32, value: u32) -> Decoded
     ensures { result ≡ monadic_answer e prefix code value }
 {
     match e {
-        MonadicEntry::Row(r, rule) => of_row(r, rule, prefix, find_monadic_mode(rule, code), value),
-        MonadicEntry::Unimplemented => of_gap(code),
-        MonadicEntry::Unlisted => Decoded::Illegal,
+        Entry::Row(row, rule) => of_row(row, rule, prefix, code, value),
+        Entry::Unimplemented if 0xC <= code => Err(Undecoded::Unimplemented(UNIMPLEMENTED_VECTOR)),
+        Entry::Unimplemented | Entry::Unlisted => Err(Undecoded::Illegal),
     }
 }
 

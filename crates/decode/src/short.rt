@@ -7,7 +7,7 @@ use decode_tables::parcel::{find_niladic, find_short, find_stack};
 use isa::lengths::with_length;
 use isa::{
     Decoded, FieldMode, Instruction, NILADIC_TRAP_VECTOR, ShortEntry, ShortInstruction, ShortRow,
-    UNIMPLEMENTED_VECTOR,
+    UNIMPLEMENTED_VECTOR, Undecoded,
 };
 use word::fields::field;
 
@@ -16,13 +16,9 @@ pub fn find_entry(e: ShortEntry, p: u16) -> ShortEntry
     ensures { result ≡ short_entry e p }
 {
     match e {
-        ShortEntry::Row(r, s, d) => ShortEntry::Row(r, s, d),
         ShortEntry::Stack => find_stack(field(p as u32, 8, 2)),
         ShortEntry::Niladic => find_niladic(short_operands(p as u32)),
-        ShortEntry::Prefix => ShortEntry::Prefix,
-        ShortEntry::Unimplemented => ShortEntry::Unimplemented,
-        ShortEntry::Trap => ShortEntry::Trap,
-        ShortEntry::Unlisted => ShortEntry::Unlisted,
+        found => found,
     }
 }
 
@@ -42,12 +38,11 @@ fn answer(e: ShortEntry, p: u16) -> Decoded
 {
     match e {
         ShortEntry::Row(r, s, d) => with_length(Instruction::Short(instruction(r, s, d, p))),
-        ShortEntry::Stack => Decoded::Illegal,
-        ShortEntry::Niladic => Decoded::Illegal,
-        ShortEntry::Prefix => Decoded::Illegal,
-        ShortEntry::Unimplemented => Decoded::Unimplemented(UNIMPLEMENTED_VECTOR),
-        ShortEntry::Trap => Decoded::Unimplemented(NILADIC_TRAP_VECTOR),
-        ShortEntry::Unlisted => Decoded::Illegal,
+        ShortEntry::Unimplemented => Err(Undecoded::Unimplemented(UNIMPLEMENTED_VECTOR)),
+        ShortEntry::Trap => Err(Undecoded::Unimplemented(NILADIC_TRAP_VECTOR)),
+        ShortEntry::Stack | ShortEntry::Niladic | ShortEntry::Prefix | ShortEntry::Unlisted => {
+            Err(Undecoded::Illegal)
+        }
     }
 }
 

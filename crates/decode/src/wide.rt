@@ -8,7 +8,7 @@ use crate::dyadic::decode_dyadic;
 use crate::fields::opcode_bits;
 use crate::monadic::decode_monadic;
 use isa::lengths::wide_length;
-use isa::{Decoded, Wide};
+use isa::{Decoded, Undecoded, Wide};
 use word::fields::{form_bits, joined};
 
 // The form of a parcel whose top bit is 1.
@@ -33,10 +33,7 @@ fn after(wide: Wide) -> usize
 pub fn is_monadic(wide: Wide, p: u16) -> bool
     ensures { result ≡ monadic_form wide p }
 {
-    match wide {
-        Wide::Three => opcode_bits(p as u32) == 0,
-        Wide::Five => false,
-    }
+    matches!(wide, Wide::Three) && opcode_bits(p as u32) == 0
 }
 
 // The first operand field, of the parcels a and b.
@@ -59,19 +56,17 @@ pub fn second(wide: Wide, b: u16, c: u16, d: u16) -> u32
     }
 }
 
-// A parcel p whose top bit is 1 and the parcels after it, of which there are n. The dyadic is decoded at one place for
-// both forms, so that the compiler keeps the answer in registers.
+// A parcel p whose top bit is 1 and the parcels after it, of which there are n.
 pub(crate) fn decode_wide(prefix: bool, n: usize, p: u16, a: u16, b: u16, c: u16, d: u16) -> Decoded
     ensures { result ≡ decode_wide prefix n p a b c d }
 {
     let wide = find_form(p);
     if n < after(wide) {
-        Decoded::Truncated
+        return Err(Undecoded::Truncated);
+    }
+    if is_monadic(wide, p) {
+        decode_monadic(prefix, p, joined(a, b))
     } else {
-        if is_monadic(wide, p) {
-            decode_monadic(prefix, p, joined(a, b))
-        } else {
-            decode_dyadic(wide, prefix, p, first(wide, a, b), second(wide, b, c, d))
-        }
+        decode_dyadic(wide, prefix, p, first(wide, a, b), second(wide, b, c, d))
     }
 }

@@ -3,7 +3,7 @@ ghost use Rattle.std.specs.Prelude.{◌≡◌};
 ghost use Rattle.isa.specs.declared.MonadicRule.TheVariants as rule;
 ghost use Rattle.isa.specs.Tables.{general_of, prefixed_of, monadic_mode_of};
 
-use isa::{Mode, ModeEntry, MonadicMode, MonadicModeEntry, MonadicRule};
+use isa::{Mode, ModeEntry, MonadicMode, MonadicRule};
 
 // Table 1-21.
 pub fn find_general(code: u32) -> ModeEntry
@@ -35,75 +35,67 @@ pub fn find_prefixed(code: u32) -> ModeEntry
     ensures { result ≡ prefixed_of code }
 {
     match code {
-        0x0..=0x6 => ModeEntry::Unlisted,
         0x7 => ModeEntry::Register,
-        0x8..=0xB => ModeEntry::Unlisted,
         0xC..=0xF => find_general(code),
         _ => ModeEntry::Unlisted,
     }
 }
 
 // The word modes of Table 1-21, for a monadic.
-fn find_word(code: u32) -> MonadicModeEntry
+fn find_word(code: u32) -> Option<MonadicMode>
     ensures { result ≡ monadic_mode_of rule.Word code }
 {
     match code {
-        0x0..=0xB => MonadicModeEntry::Unlisted,
-        0xC => MonadicModeEntry::Is(MonadicMode::WordAbsolute),
-        0xD => MonadicModeEntry::Is(MonadicMode::WordStack),
-        0xE => MonadicModeEntry::Is(MonadicMode::WordIndirect),
-        0xF => MonadicModeEntry::Is(MonadicMode::WordImmediate),
-        _ => MonadicModeEntry::Unlisted,
+        0xC => Some(MonadicMode::WordAbsolute),
+        0xD => Some(MonadicMode::WordStack),
+        0xE => Some(MonadicMode::WordIndirect),
+        0xF => Some(MonadicMode::WordImmediate),
+        _ => None,
     }
 }
 
 // Table 1-23.
-fn find_flow(code: u32) -> MonadicModeEntry
+fn find_flow(code: u32) -> Option<MonadicMode>
     ensures { result ≡ monadic_mode_of rule.Flow code }
 {
     match code {
-        0x0..=0xB => MonadicModeEntry::Unlisted,
-        0xC => MonadicModeEntry::Is(MonadicMode::FlowAbsoluteIndirect),
-        0xD => MonadicModeEntry::Is(MonadicMode::FlowStackIndirect),
-        0xE => MonadicModeEntry::Is(MonadicMode::FlowRelative),
-        0xF => MonadicModeEntry::Is(MonadicMode::FlowAbsolute),
-        _ => MonadicModeEntry::Unlisted,
+        0xC => Some(MonadicMode::FlowAbsoluteIndirect),
+        0xD => Some(MonadicMode::FlowStackIndirect),
+        0xE => Some(MonadicMode::FlowRelative),
+        0xF => Some(MonadicMode::FlowAbsolute),
+        _ => None,
     }
 }
 
 // Table 1-23, for a jump by a condition: no indirection.
-fn find_jump(code: u32) -> MonadicModeEntry
+fn find_jump(code: u32) -> Option<MonadicMode>
     ensures { result ≡ monadic_mode_of rule.Jump code }
 {
     match code {
-        0x0..=0xD => MonadicModeEntry::Unlisted,
-        0xE => MonadicModeEntry::Is(MonadicMode::FlowRelative),
-        0xF => MonadicModeEntry::Is(MonadicMode::FlowAbsolute),
-        _ => MonadicModeEntry::Unlisted,
+        0xE => Some(MonadicMode::FlowRelative),
+        0xF => Some(MonadicMode::FlowAbsolute),
+        _ => None,
     }
 }
 
 // A stack offset alone.
-fn find_offset(code: u32) -> MonadicModeEntry
+fn find_offset(code: u32) -> Option<MonadicMode>
     ensures { result ≡ monadic_mode_of rule.Stack code }
 {
     match code {
-        0x0..=0xC => MonadicModeEntry::Unlisted,
-        0xD => MonadicModeEntry::Is(MonadicMode::WordStack),
-        0xE..=0xF => MonadicModeEntry::Unlisted,
-        _ => MonadicModeEntry::Unlisted,
+        0xD => Some(MonadicMode::WordStack),
+        _ => None,
     }
 }
 
 // By the class of the instruction's operand.
-pub fn find_monadic_mode(rule: MonadicRule, code: u32) -> MonadicModeEntry
+pub fn find_monadic_mode(rule: MonadicRule, code: u32) -> Option<MonadicMode>
     ensures { result ≡ monadic_mode_of rule code }
 {
     match rule {
-        MonadicRule::Word => find_word(code),
+        MonadicRule::Word | MonadicRule::Enter => find_word(code),
         MonadicRule::Flow => find_flow(code),
         MonadicRule::Jump => find_jump(code),
         MonadicRule::Stack => find_offset(code),
-        MonadicRule::Enter => find_word(code),
     }
 }

@@ -34,6 +34,6 @@ pub fn encode(i: Instruction, length: u32) -> Encoded
     if length == length_of(i) {
         encode_any(i)
     } else {
-        Encoded::NoCode
+        None
     }
 }

@@ -3,7 +3,7 @@ ghost use Rattle.std.specs.Prelude.{◌≡◌, ◌+◌, ◌*◌, ◌<◌};
 ghost use Rattle.isa.specs.Encode.{flow_mode, takes, encode_monadic};
 ghost use Rattle.encode.specs.Parts.{monadic_parcels, monadic_has_code};
 
-use crate::text::{answer, three_parcels};
+use crate::text::{three_parcels, with_prefix};
 use encode_tables::modes::monadic_code;
 use encode_tables::rows::list_monadic;
 use isa::{Encoded, MonadicInstruction, MonadicMode, Single, Text};
@@ -13,16 +13,13 @@ use word::fields::{high_half, low_half};
 fn is_flow(m: MonadicMode) -> bool
     ensures { result ≡ flow_mode m }
 {
-    match m {
-        MonadicMode::WordAbsolute => false,
-        MonadicMode::WordStack => false,
-        MonadicMode::WordIndirect => false,
-        MonadicMode::WordImmediate => false,
-        MonadicMode::FlowAbsoluteIndirect => true,
-        MonadicMode::FlowStackIndirect => true,
-        MonadicMode::FlowRelative => true,
-        MonadicMode::FlowAbsolute => true,
-    }
+    matches!(
+        m,
+        MonadicMode::FlowAbsoluteIndirect
+            | MonadicMode::FlowStackIndirect
+            | MonadicMode::FlowRelative
+            | MonadicMode::FlowAbsolute
+    )
 }
 
 // Whether a row's class takes the operand.
@@ -50,29 +47,21 @@ fn first_parcel(k: u32, j: u32) -> u16
 fn monadic_parcels(i: MonadicInstruction) -> Text
     ensures { result ≡ monadic_parcels i }
 {
-    let row = i.row;
-    let m = i.mode;
-    let l = list_monadic(row);
-    three_parcels(
+    let first = first_parcel(monadic_code(i.mode), list_monadic(i.row).subcode);
+    with_prefix(
         i.prefix,
-        first_parcel(monadic_code(m), l.subcode),
-        high_half(i.value),
-        low_half(i.value),
+        three_parcels(first, high_half(i.value), low_half(i.value)),
     )
 }
 
 fn monadic_has_code(i: MonadicInstruction) -> bool
     ensures { result ≡ monadic_has_code i }
 {
-    let row = i.row;
-    let m = i.mode;
-    let l = list_monadic(row);
-    let o = l.operand;
-    takes_operand(o, m, i.value)
+    takes_operand(list_monadic(i.row).operand, i.mode, i.value)
 }
 
 pub(crate) fn encode_monadic(i: MonadicInstruction) -> Encoded
     ensures { result ≡ encode_monadic i }
 {
-    answer(monadic_has_code(i), monadic_parcels(i))
+    monadic_has_code(i).then_some(monadic_parcels(i))
 }

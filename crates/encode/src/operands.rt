@@ -1,7 +1,6 @@
 // Which operands a dyadic may have, and whether a form has room for them.
 ghost use Rattle.std.specs.Prelude.{◌≡◌};
-ghost use Rattle.isa.specs.Legal.{is_register};
-ghost use Rattle.isa.specs.Encode.{fits16, fits_gen, fits, moved_code, admits, operand_raw, is_absolute, address_code};
+ghost use Rattle.isa.specs.Encode.{fits16, fits_gen, fits, moved_code, admits, is_absolute, address_code};
 
 use encode_tables::modes::{mode_code, operand_code};
 use isa::{Operand, Operands, Wide};
@@ -46,15 +45,6 @@ pub fn fits_form(w: Wide, o: Operand) -> bool
     }
 }
 
-fn is_register(o: Operand) -> bool
-    ensures { result ≡ is_register o }
-{
-    match o {
-        Operand::General(_, _) => false,
-        Operand::Register(_) => true,
-    }
-}
-
 // A word in memory.
 fn is_address(k: u32) -> bool
     ensures { result ≡ address_code k }
@@ -74,22 +64,12 @@ pub fn admits_both(o: Operands, s: Operand, d: Operand) -> bool
     ensures { result ≡ admits o s d }
 {
     match o {
-        Operands::Gen => !is_register(s) | !is_register(d),
+        Operands::Gen => !s.is_register() | !d.is_register(),
         Operands::GenWritten => true,
-        Operands::GenAddress => !is_register(s) & !is_register(d) & is_address(operand_code(s)),
-        Operands::GenMoved => !is_register(s)
-            & !is_register(d)
+        Operands::GenAddress => !s.is_register() & !d.is_register() & is_address(operand_code(s)),
+        Operands::GenMoved => !s.is_register()
+            & !d.is_register()
             & (0xC <= operand_code(s))
             & is_moved(operand_code(d)),
-    }
-}
-
-// What stands in an operand's field, before it is cut to the form.
-pub fn operand_raw(o: Operand) -> u32
-    ensures { result ≡ operand_raw o }
-{
-    match o {
-        Operand::General(_, v) => v,
-        Operand::Register(n) => n,
     }
 }

@@ -2,7 +2,7 @@
 ghost use Rattle.std.specs.Prelude.{◌≡◌, ◌+◌, ◌<◌};
 ghost use Rattle.isa.specs.Encode.{source_place, short_parcel, short_coded, encode_short};
 
-use crate::text::{answer, one_parcel};
+use crate::text::one_parcel;
 use crate::values::carries_value;
 use encode_tables::fields::raw_field;
 use encode_tables::rows::list_short;
@@ -15,15 +15,9 @@ fn source_place(m: FieldMode, f: u32) -> u32
 {
     match m {
         FieldMode::Absent => 0,
-        FieldMode::Imm5 => f << 5,
-        FieldMode::Uimm5 => f << 5,
-        FieldMode::Wai5 => f << 5,
-        FieldMode::Stk5 => f << 5,
-        FieldMode::Istk5 => f << 5,
-        FieldMode::Imm10 => f,
-        FieldMode::Pcrel10 => f,
-        FieldMode::Stk8 => f,
-        FieldMode::Fill8 => f,
+        FieldMode::Imm5 | FieldMode::Uimm5 | FieldMode::Wai5 | FieldMode::Stk5 | FieldMode::Istk5 =>
+            f << 5,
+        FieldMode::Imm10 | FieldMode::Pcrel10 | FieldMode::Stk8 | FieldMode::Fill8 => f,
     }
 }
 
@@ -39,26 +33,20 @@ fn short_parcel(l: ShortListed, u: u32, v: u32) -> u16
     requires { l.base < 32768 }
     ensures { result ≡ short_parcel l u v }
 {
-    let s = l.source;
-    let d = l.destination;
-    parcel(l.base, source_place(s, raw_field(s, u)), raw_field(d, v))
+    let source = source_place(l.source, raw_field(l.source, u));
+    parcel(l.base, source, raw_field(l.destination, v))
 }
 
 fn short_coded(l: ShortListed, u: u32, v: u32) -> Encoded
     requires { l.base < 32768 }
     ensures { result ≡ short_coded l u v }
 {
-    let s = l.source;
-    let d = l.destination;
-    answer(
-        carries_value(s, u) & carries_value(d, v),
-        one_parcel(short_parcel(l, u, v)),
-    )
+    let carried = carries_value(l.source, u) & carries_value(l.destination, v);
+    carried.then_some(one_parcel(short_parcel(l, u, v)))
 }
 
 pub(crate) fn encode_short(i: ShortInstruction) -> Encoded
     ensures { result ≡ encode_short i }
 {
-    let row = i.row;
-    short_coded(list_short(row), i.source, i.destination)
+    short_coded(list_short(i.row), i.source, i.destination)
 }

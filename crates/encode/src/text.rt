@@ -1,21 +1,10 @@
 // Texts of one, three and five parcels, the CPU prefix before the longer ones if there is one.
-ghost use Rattle.std.specs.Prelude.{◌≡◌};
-ghost use Rattle.isa.specs.Encode.{coded, text1, text3, text5, with_prefix};
+ghost use Rattle.std.specs.Prelude.{◌≡◌, ◌<◌};
+ghost use Rattle.isa.specs.Encode.{text1, text3, text5, with_prefix};
 
-use isa::{CPU_PREFIX, Encoded, Text};
+use isa::{CPU_PREFIX, Text};
 
-// A text where there is a code.
-pub fn answer(found: bool, t: Text) -> Encoded
-    ensures { result ≡ coded found t }
-{
-    if found {
-        Encoded::Parcels(t)
-    } else {
-        Encoded::NoCode
-    }
-}
-
-pub fn one_parcel(p: u16) -> Text
+pub(crate) fn one_parcel(p: u16) -> Text
     ensures { result ≡ text1 p }
 {
     Text {
@@ -29,54 +18,50 @@ pub fn one_parcel(p: u16) -> Text
     }
 }
 
-pub fn three_parcels(prefix: bool, p: u16, a: u16, b: u16) -> Text
-    ensures { result ≡ with_prefix prefix (text3 p a b) }
+pub(crate) fn three_parcels(p: u16, a: u16, b: u16) -> Text
+    ensures { result ≡ text3 p a b }
 {
-    if prefix {
-        Text {
-            count: 4,
-            p0: CPU_PREFIX,
-            p1: p,
-            p2: a,
-            p3: b,
-            p4: 0,
-            p5: 0,
-        }
-    } else {
-        Text {
-            count: 3,
-            p0: p,
-            p1: a,
-            p2: b,
-            p3: 0,
-            p4: 0,
-            p5: 0,
-        }
+    Text {
+        count: 3,
+        p0: p,
+        p1: a,
+        p2: b,
+        p3: 0,
+        p4: 0,
+        p5: 0,
     }
 }
 
-pub fn five_parcels(prefix: bool, p: u16, a: u16, b: u16, c: u16, d: u16) -> Text
-    ensures { result ≡ with_prefix prefix (text5 p a b c d) }
+pub(crate) fn five_parcels(p: u16, a: u16, b: u16, c: u16, d: u16) -> Text
+    ensures { result ≡ text5 p a b c d }
+{
+    Text {
+        count: 5,
+        p0: p,
+        p1: a,
+        p2: b,
+        p3: c,
+        p4: d,
+        p5: 0,
+    }
+}
+
+// A text of at most five parcels after its prefix, if there is one.
+pub(crate) fn with_prefix(prefix: bool, t: Text) -> Text
+    requires { t.count < 6 }
+    ensures { result ≡ with_prefix prefix t }
 {
     if prefix {
         Text {
-            count: 6,
+            count: t.count + 1,
             p0: CPU_PREFIX,
-            p1: p,
-            p2: a,
-            p3: b,
-            p4: c,
-            p5: d,
+            p1: t.p0,
+            p2: t.p1,
+            p3: t.p2,
+            p4: t.p3,
+            p5: t.p4,
         }
     } else {
-        Text {
-            count: 5,
-            p0: p,
-            p1: a,
-            p2: b,
-            p3: c,
-            p4: d,
-            p5: 0,
-        }
+        t
     }
 }

@@ -43,7 +43,7 @@ pub fn has_mode(prefix: bool, o: Operand) -> bool
     ensures { result ≡ has_mode prefix o }
 {
     match o {
-        Operand::General(m, _) => if prefix { 0xC <= mode_code(m) } else { true },
+        Operand::General(m, _) => !prefix | (0xC <= mode_code(m)),
         Operand::Register(_) => prefix,
     }
 }
@@ -53,13 +53,9 @@ pub fn monadic_code(m: MonadicMode) -> u32
     ensures { result ≡ monadic_code m }
 {
     match m {
-        MonadicMode::WordAbsolute => 0xC,
-        MonadicMode::WordStack => 0xD,
-        MonadicMode::WordIndirect => 0xE,
-        MonadicMode::WordImmediate => 0xF,
-        MonadicMode::FlowAbsoluteIndirect => 0xC,
-        MonadicMode::FlowStackIndirect => 0xD,
-        MonadicMode::FlowRelative => 0xE,
-        MonadicMode::FlowAbsolute => 0xF,
+        MonadicMode::WordAbsolute | MonadicMode::FlowAbsoluteIndirect => 0xC,
+        MonadicMode::WordStack | MonadicMode::FlowStackIndirect => 0xD,
+        MonadicMode::WordIndirect | MonadicMode::FlowRelative => 0xE,
+        MonadicMode::WordImmediate | MonadicMode::FlowAbsolute => 0xF,
     }
 }

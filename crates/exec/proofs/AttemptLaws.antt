@@ -2,14 +2,17 @@
 -- Assumes nothing.
 use Prim.Native.Nat.{ℕ, ◌%◌, ◌^◌, ◌<◌, ◌≤◌}
 use mathlib.Core.Path.{◌≡◌, refl, sym, ap, ◌∙◌}
+use mathlib.Core.Logic.{◌⊎◌, ⊎_elim}
 use mathlib.Core.Bool.{Bool, true, false}
 use lib.Dec.{ltb}
 use native.Mathlib.Omega.{arith}
 use borrow.Author.Tests.{ne_eqb, eq-eqb, lt-ltb, le-ltb, ltb-true, ltb-false}
 use Rattle.word.proofs.CaseLaws.{by_test}
 use Rattle.isa.specs.declared.Text.{Text}
-use Rattle.isa.specs.declared.Decoded.{Decoded}
-use Rattle.isa.specs.Answers.{decoded_numbers}
+use Rattle.std.specs.Prelude.{Err}
+use Rattle.isa.specs.declared.Undecoded.{Undecoded}
+use Rattle.isa.specs.declared.Undecoded.TheVariants.{Illegal, Unimplemented, Truncated}
+use Rattle.isa.specs.Answers.{decoded_numbers, Decoded}
 use Rattle.isa.specs.Decode.{decode_of}
 use Rattle.isa.proofs.AnswerLaws.{same_decoded}
 use Rattle.memory.specs.Answers.{Answer as Answered, good, raised, answer_of}
@@ -24,7 +27,7 @@ use Rattle.datapath.specs.Parts.{Out, ok, stop, onward, done, ◌>>=◌}
 use Rattle.datapath.specs.Text.{fetch_text}
 use Rattle.datapath.specs.Code.{text_out}
 use Rattle.datapath.proofs.BindLaws.{bind}
-use Rattle.step_spec.specs.Step.{Dispatch, dispatch, fetch_instruction, Acted, finished, sequenced, act, attempt}
+use Rattle.step_spec.specs.Step.{Dispatch, to_vector, dispatch, fetch_instruction, Acted, finished, sequenced, act, attempt}
 use Rattle.run_spec.specs.Run.{ConfinedActed, carried_out, fetched, act_confined, confined_attempt}
 use Rattle.exec.specs.Code.{Attempted, acted, only_fetched, of_confined, act_of, attempt_of, acted_as, attempted_as, confined_as, out_by, attempted_out, acted_out, confined_out}
 use Rattle.exec.proofs.ActLaws.{mapped, renamed}
@@ -41,6 +44,15 @@ pub answer_illegal : (confined : Bool) (b : Bank) (q : Cache) (a : Decoded) (t :
     → response (attempted_out (answer_of x) b q) t ≡ interpret logging (onward (act_of confined (cpu b q)) (dispatch (cpu b q) a)) t
 unfolding onward interpret
 answer_illegal confined b q a t x e h = rw (e, h) refl
+
+-- what is met where there is no instruction
+module _ (c : Cpu) (a : Decoded) (e : Undecoded) (h : a ≡ Err e) where
+  pub none_dispatched : (v : ℕ) → e ≡ Unimplemented v → dispatch c a ≡ ok (to_vector v)
+  none_dispatched v k = ap (dispatch c) h ∙ ap (λ (u : Undecoded). dispatch c (Err u)) k
+
+  pub none_legal : (e ≡ Illegal) ⊎ (e ≡ Truncated) → dispatch c a ≡ stop 3 c
+  none_legal f =
+      ap (dispatch c) h ∙ ⊎_elim (λ k. ap (λ (u : Undecoded). dispatch c (Err u)) k) (λ k. ap (λ (u : Undecoded). dispatch c (Err u)) k) f
 
 -- ---- the fetch and what follows it
 

@@ -17,7 +17,7 @@ use exec_event_frames::sequences::unimplemented_sequence;
 use exec_rows::Action;
 use exec_rows::forms::action_of;
 use exec_spec::Monadic;
-use isa::{Decoded, Instruction};
+use isa::{Decoded, Instruction, Undecoded};
 use machine::{Bank, Quads};
 use memory::answers::{EXCEPTION, low32, raised};
 use memory::exceptions::ILLEGAL_INSTRUCTION;
@@ -118,10 +118,11 @@ fn act_on_answer(
     ensures { Attempts result m journal q r (λ c. onward (act_of confined c) (dispatch c a)) }
 {
     match a {
-        Decoded::Is(i, n) => act_on(m, journal, q, r, confined, i, n),
-        Decoded::Illegal => raised(ILLEGAL_INSTRUCTION),
-        Decoded::Unimplemented(vector) => act_unimplemented(m, journal, q, r, confined, vector),
-        Decoded::Truncated => raised(ILLEGAL_INSTRUCTION),
+        Ok((i, n)) => act_on(m, journal, q, r, confined, i, n),
+        Err(Undecoded::Unimplemented(vector)) => {
+            act_unimplemented(m, journal, q, r, confined, vector)
+        }
+        Err(Undecoded::Illegal | Undecoded::Truncated) => raised(ILLEGAL_INSTRUCTION),
     }
 }
 

@@ -24,10 +24,12 @@ pub fn short_form(row: ShortRow) -> ShortForm
         ShortRow::Kcall => ShortForm::One(Monadic::Kcall, MonadicMode::WordImmediate),
         ShortRow::Call => ShortForm::One(Monadic::Call, MonadicMode::FlowRelative),
         ShortRow::Jmp => ShortForm::One(Monadic::Jmp, MonadicMode::FlowRelative),
-        ShortRow::Jmpfn => ShortForm::One(Monadic::JmpFalse, MonadicMode::FlowRelative),
-        ShortRow::Jmpfy => ShortForm::One(Monadic::JmpFalse, MonadicMode::FlowRelative),
-        ShortRow::Jmptn => ShortForm::One(Monadic::JmpTrue, MonadicMode::FlowRelative),
-        ShortRow::Jmpty => ShortForm::One(Monadic::JmpTrue, MonadicMode::FlowRelative),
+        ShortRow::Jmpfn | ShortRow::Jmpfy => {
+            ShortForm::One(Monadic::JmpFalse, MonadicMode::FlowRelative)
+        }
+        ShortRow::Jmptn | ShortRow::Jmpty => {
+            ShortForm::One(Monadic::JmpTrue, MonadicMode::FlowRelative)
+        }
         ShortRow::MovWaiStk => to_stack(Task::Move, Mode::Immediate),
         ShortRow::Add3WaiStk => to_stack(Task::Accumulate(Operation::Add), Mode::Immediate),
         ShortRow::And3ImmStk => to_stack(Task::Accumulate(Operation::And), Mode::Immediate),
@@ -53,9 +55,7 @@ pub fn short_form(row: ShortRow) -> ShortForm
         ShortRow::Return => ShortForm::One(Monadic::Return, MonadicMode::WordStack),
         ShortRow::Popn => ShortForm::One(Monadic::Popn, MonadicMode::WordStack),
         ShortRow::Kret => ShortForm::Zero(Niladic::Kret),
-        ShortRow::Nop => ShortForm::Zero(Niladic::Nop),
-        ShortRow::Flushi => ShortForm::Zero(Niladic::Nop),
-        ShortRow::Flushp => ShortForm::Zero(Niladic::Nop),
+        ShortRow::Nop | ShortRow::Flushi | ShortRow::Flushp => ShortForm::Zero(Niladic::Nop),
         ShortRow::Cret => ShortForm::Zero(Niladic::Cret),
         ShortRow::Testv => ShortForm::Zero(Niladic::Testv),
         ShortRow::Testc => ShortForm::Zero(Niladic::Testc),
@@ -115,15 +115,12 @@ pub fn monadic_operation(row: MonadicRow) -> Monadic
         MonadicRow::Call => Monadic::Call,
         MonadicRow::Return => Monadic::Return,
         MonadicRow::Jmp => Monadic::Jmp,
-        MonadicRow::Jmpfn => Monadic::JmpFalse,
-        MonadicRow::Jmpfy => Monadic::JmpFalse,
-        MonadicRow::Jmptn => Monadic::JmpTrue,
-        MonadicRow::Jmpty => Monadic::JmpTrue,
+        MonadicRow::Jmpfn | MonadicRow::Jmpfy => Monadic::JmpFalse,
+        MonadicRow::Jmptn | MonadicRow::Jmpty => Monadic::JmpTrue,
         MonadicRow::Catch => Monadic::Catch,
         MonadicRow::Enter => Monadic::Enter,
         MonadicRow::Ldraa => Monadic::Ldraa,
-        MonadicRow::Flushpte => Monadic::Flush,
-        MonadicRow::Flushpbe => Monadic::Flush,
+        MonadicRow::Flushpte | MonadicRow::Flushpbe => Monadic::Flush,
         MonadicRow::Popn => Monadic::Popn,
     }
 }
@@ -149,21 +146,8 @@ pub fn action_of(i: Instruction) -> Action
     ensures { action_of result ≡ normal i }
 {
     match i {
-        Instruction::Short(j) => {
-            let row = j.row;
-            short_action(short_form(row), j.source, j.destination)
-        }
-        Instruction::Dyadic(j) => {
-            let row = j.row;
-            let wide = j.wide;
-            let s = j.source;
-            let d = j.destination;
-            Action::Two(wide, task_of(row), s, d)
-        }
-        Instruction::Monadic(j) => {
-            let row = j.row;
-            let mode = j.mode;
-            Action::One(monadic_operation(row), mode, j.value)
-        }
+        Instruction::Short(j) => short_action(short_form(j.row), j.source, j.destination),
+        Instruction::Dyadic(j) => Action::Two(j.wide, task_of(j.row), j.source, j.destination),
+        Instruction::Monadic(j) => Action::One(monadic_operation(j.row), j.mode, j.value),
     }
 }

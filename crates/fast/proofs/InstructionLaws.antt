@@ -9,8 +9,6 @@ use Rattle.isa.specs.declared.Mode.{Mode}
 use Rattle.isa.specs.declared.MonadicMode.{MonadicMode}
 use Rattle.isa.specs.declared.Operand.TheVariants.{General}
 use Rattle.isa.specs.declared.Wide.{Wide}
-use Rattle.isa.specs.declared.Decoded.{Decoded}
-use Rattle.isa.specs.declared.Decoded.TheVariants.{Is}
 use Rattle.isa.specs.declared.Instruction.{Instruction}
 use Rattle.isa.specs.Decode.{decode_of, cpu_prefix}
 use Rattle.memory.specs.Bytes.{Memory}
@@ -36,6 +34,8 @@ use Rattle.fast_dyadic.specs.Fast.{gives}
 use Rattle.fast.specs.Performed.{parcel_at, text_at, InstructionDone, Executed, Performed}
 use Rattle.fast_dyadic.proofs.GiveLaws.{gives_then}
 use Rattle.fast.proofs.TextLaws.{text_effect_free}
+use Rattle.std.specs.Prelude.{Ok}
+use Rattle.isa.specs.Answers.{Decoded}
 
 -- ---- by the plan
 
@@ -51,12 +51,12 @@ module _ (b e : Bank) (q s : Cache) (m n : Memory) (p : Plan) where
 
 -- ---- the instruction at PC
 
-instruction_fetched : (c : Cpu) (m : Memory) (k : ℕ) (i : Instruction) (l : ℕ) → gives (fetch_text c) m (text_at m k) m → decode_of (text_at m k) ≡ Is i l
+instruction_fetched : (c : Cpu) (m : Memory) (k : ℕ) (i : Instruction) (l : ℕ) → gives (fetch_text c) m (text_at m k) m → decode_of (text_at m k) ≡ Ok (i, l)
     → gives (fetch_instruction c) m (to_instruction i l) m
 unfolding fetch_instruction interpret
 instruction_fetched c m k i l g e = gives_then (fetch_text c) _ m m m (text_at m k) (to_instruction i l) g (decoded c m (decode_of (text_at m k)) e)
   where
-    decoded : (z : Cpu) (n : Memory) (a : Decoded) → a ≡ Is i l → interpret plain (ret (dispatch z a)) n ≡ response (ok (to_instruction i l)) n
+    decoded : (z : Cpu) (n : Memory) (a : Decoded) → a ≡ Ok (i, l) → interpret plain (ret (dispatch z a)) n ≡ response (ok (to_instruction i l)) n
     decoded z n a f = rw f refl
 
 module _ (c d : Cpu) (m n : Memory) (p : Plan) (a : Decoded) (g : Does (normal_of p) (plan_length p) a) (x : Executed p c m d n) where

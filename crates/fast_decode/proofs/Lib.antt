@@ -1,2 +1,1 @@
-mod PlanLaws
 pub mod AnswerLaws

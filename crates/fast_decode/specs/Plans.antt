@@ -1,14 +1,14 @@
 -- What the decoder's answer does, with its length but without its encoding, where that is two operands that are no registers, or
 -- one operand.
 -- Assumes nothing.
-use Rattle.std.specs.Prelude.{ℕ, Bool, true, false}
-use Rattle.isa.specs.declared.Decoded.{Decoded}
-use Rattle.isa.specs.declared.Decoded.TheVariants.{Is, Illegal, Unimplemented, Truncated}
+use Rattle.std.specs.Prelude.{ℕ, Bool, true, false, Ok, Err}
+use Rattle.isa.specs.declared.Undecoded.TheVariants.{Illegal, Unimplemented, Truncated}
 use Rattle.isa.specs.declared.Operand.TheVariants.{General, Register}
 use Rattle.exec_spec.specs.declared.Niladic.TheVariants.{Nop}
 use Rattle.exec_spec.specs.Execute.{Normal, two_operands, one_operand, no_operand, normal}
 use Rattle.fast_decode.specs.declared.Plan.{Plan}
 use Rattle.fast_decode.specs.declared.Plan.TheVariants.{Two, One, Other}
+use Rattle.isa.specs.Answers.{Decoded}
 
 abbrev pub planned : Normal → ℕ → Plan
 planned (two_operands w t (General a s) (General b d)) l = Two l w t a s b d
@@ -19,10 +19,10 @@ planned (one_operand o m v) l = One l o m v
 planned (no_operand o) l = Other
 
 abbrev pub plan_of : Decoded → Plan
-plan_of (Is i l) = planned (normal i) l
-plan_of Illegal = Other
-plan_of (Unimplemented v) = Other
-plan_of Truncated = Other
+plan_of (Ok (i, l)) = planned (normal i) l
+plan_of (Err Illegal) = Other
+plan_of (Err (Unimplemented v)) = Other
+plan_of (Err Truncated) = Other
 
 -- whether there is one
 abbrev pub is_plan : Plan → Bool

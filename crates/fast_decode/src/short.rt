@@ -37,12 +37,7 @@ fn plan_entry(e: ShortEntry, p: u16) -> Plan
 {
     match e {
         ShortEntry::Row(row, s, d) => plan_row(row, s, d, p),
-        ShortEntry::Stack => Plan::Other,
-        ShortEntry::Niladic => Plan::Other,
-        ShortEntry::Prefix => Plan::Other,
-        ShortEntry::Unimplemented => Plan::Other,
-        ShortEntry::Trap => Plan::Other,
-        ShortEntry::Unlisted => Plan::Other,
+        _ => Plan::Other,
     }
 }
 

@@ -1,6 +1,6 @@
 // Three and five parcels.
 ghost use Rattle.std.specs.Prelude.{◌≡◌, false};
-ghost use Rattle.isa.specs.declared.DyadicEntry.TheVariants as entry;
+ghost use Rattle.isa.specs.declared.Entry.TheVariants as entry;
 ghost use Rattle.isa.specs.declared.Operand.TheVariants as operand;
 ghost use Rattle.isa.specs.Lengths.{form_of, after_of};
 ghost use Rattle.isa.specs.Decode.{operand_found, dyadic_answer, both_found, decode_dyadic, monadic_found, decode_monadic, decode_wide};
@@ -16,8 +16,8 @@ use decode_tables::wide::{find_dyadic, find_monadic};
 use exec_rows::forms::{monadic_operation, task_of};
 use isa::lengths::wide_length;
 use isa::{
-    DyadicEntry, DyadicRow, Mode, ModeEntry, MonadicEntry, MonadicModeEntry, MonadicRow,
-    MonadicRule, Operand, Rule, Wide,
+    DyadicEntry, DyadicRow, Entry, Mode, ModeEntry, MonadicMode, MonadicRow, MonadicRule, Operand,
+    Rule, Wide,
 };
 use word::fields::joined;
 
@@ -42,16 +42,11 @@ fn plan_modes(
 ) -> Plan
     ensures { result ≡ plan_of (both_found (entry.Row row rule) wide false (operand_found wide s x) (operand_found wide d y)) }
 {
-    match s {
-        ModeEntry::General(a) => match d {
-            ModeEntry::General(b) => {
-                plan_operands(wide, row, rule, a, value(wide, a, x), b, value(wide, b, y))
-            }
-            ModeEntry::Register => Plan::Other,
-            ModeEntry::Unlisted => Plan::Other,
-        },
-        ModeEntry::Register => Plan::Other,
-        ModeEntry::Unlisted => Plan::Other,
+    match (s, d) {
+        (ModeEntry::General(a), ModeEntry::General(b)) => {
+            plan_operands(wide, row, rule, a, value(wide, a, x), b, value(wide, b, y))
+        }
+        _ => Plan::Other,
     }
 }
 
@@ -59,9 +54,8 @@ fn plan_entry(e: DyadicEntry, wide: Wide, s: ModeEntry, d: ModeEntry, x: u32, y:
     ensures { result ≡ plan_of (both_found e wide false (operand_found wide s x) (operand_found wide d y)) }
 {
     match e {
-        DyadicEntry::Row(row, rule) => plan_modes(wide, row, rule, s, d, x, y),
-        DyadicEntry::Unimplemented => Plan::Other,
-        DyadicEntry::Unlisted => Plan::Other,
+        Entry::Row(row, rule) => plan_modes(wide, row, rule, s, d, x, y),
+        Entry::Unimplemented | Entry::Unlisted => Plan::Other,
     }
 }
 
@@ -74,17 +68,14 @@ fn plan_dyadic(wide: Wide, p: u16, x: u32, y: u32) -> Plan
     plan_entry(e, wide, s, d, x, y)
 }
 
-fn plan_mode(row: MonadicRow, rule: MonadicRule, e: MonadicModeEntry, v: u32) -> Plan
+fn plan_mode(row: MonadicRow, rule: MonadicRule, e: Option<MonadicMode>, v: u32) -> Plan
     ensures { result ≡ plan_of (monadic_found row rule false e v) }
 {
     match e {
-        MonadicModeEntry::Is(mode) => {
-            if monadic_legal(rule, mode, v) {
-                return Plan::One(wide_length(Wide::Three), monadic_operation(row), mode, v);
-            }
-            Plan::Other
+        Some(mode) if monadic_legal(rule, mode, v) => {
+            Plan::One(wide_length(Wide::Three), monadic_operation(row), mode, v)
         }
-        MonadicModeEntry::Unlisted => Plan::Other,
+        _ => Plan::Other,
     }
 }
 
@@ -92,11 +83,10 @@ fn plan_monadic(p: u16, v: u32) -> Plan
     ensures { result ≡ plan_of (decode_monadic false p v) }
 {
     match find_monadic(last_bits(p as u32)) {
-        MonadicEntry::Row(row, rule) => {
+        Entry::Row(row, rule) => {
             plan_mode(row, rule, find_monadic_mode(rule, mode_bits(p as u32)), v)
         }
-        MonadicEntry::Unimplemented => Plan::Other,
-        MonadicEntry::Unlisted => Plan::Other,
+        Entry::Unimplemented | Entry::Unlisted => Plan::Other,
     }
 }
 

@@ -8,20 +8,17 @@ use Rattle.isa.specs.declared.ModeEntry.{ModeEntry}
 use Rattle.isa.specs.declared.ModeEntry.TheVariants as mode
 use Rattle.isa.specs.declared.Operand.{Operand}
 use Rattle.isa.specs.declared.Operand.TheVariants as operand
-use Rattle.isa.specs.declared.OperandFound.{OperandFound}
-use Rattle.isa.specs.declared.OperandFound.TheVariants as found
 use Rattle.isa.specs.declared.Wide.{Wide}
 use Rattle.isa.specs.declared.Wide.TheVariants.{Three, Five}
 use Rattle.isa.specs.declared.Rule.{Rule}
 use Rattle.isa.specs.declared.Rule.TheVariants.{OneRegister, AnyTwo, Address, Multiple}
-use Rattle.isa.specs.declared.DyadicEntry.{DyadicEntry}
-use Rattle.isa.specs.declared.DyadicEntry.TheVariants as entry
-use Rattle.isa.specs.declared.Decoded.{Decoded}
-use Rattle.isa.specs.Answers.{unimplemented_vector}
-use Rattle.isa.specs.Tables.{dyadic_of}
+use Rattle.isa.specs.declared.Entry.TheVariants as entry
+use Rattle.isa.specs.Answers.{unimplemented_vector, Decoded}
+use Rattle.isa.specs.Tables.{dyadic_of, DyadicEntry}
 use Rattle.isa.specs.Legal.{word_in_memory, constant, double_word, is_register, of_mode, legal_of}
 use Rattle.isa.specs.Decode.{operand_found, mode_entry, dyadic_answer, both_found, decode_dyadic}
 use Rattle.form_bit.specs.Shapes.{mode_of, Shape, dyadic_shape, illegal_shape, unimplemented_shape, shape_of, at_five, Extends}
+use Rattle.std.specs.Prelude.{Option, Some, None}
 
 -- ---- shapes
 
@@ -117,11 +114,11 @@ answer_five_law (entry.Row r u) pre s d = sym (of_choice at_five (legal_of u s d
 answer_five_law entry.Unimplemented pre s d = sym (of_choice at_five (legal_of OneRegister s d) _ _)
 answer_five_law entry.Unlisted pre s d = refl
 
-both_five : (e : DyadicEntry) (pre : Bool) (f g : OperandFound) → both_found e Five pre f g ≡ at_five (both_found e Three pre f g)
-both_five e pre (found.Is s) (found.Is d) = answer_five_law e pre s d
-both_five e pre (found.Is s) found.Nothing = refl
-both_five e pre found.Nothing (found.Is d) = refl
-both_five e pre found.Nothing found.Nothing = refl
+both_five : (e : DyadicEntry) (pre : Bool) (f g : Option Operand) → both_found e Five pre f g ≡ at_five (both_found e Three pre f g)
+both_five e pre (Some s) (Some d) = answer_five_law e pre s d
+both_five e pre (Some s) None = refl
+both_five e pre None (Some d) = refl
+both_five e pre None None = refl
 
 -- p in three parcels with the fields x and y, r in five with v and z
 pub dyadic_five : (pre : Bool) (p r q x y v z : ℕ) → SameBits p q → SameBits r q

@@ -1,12 +1,11 @@
 -- Every parcel has texts of three and of five, and one that is set apart has texts at which it differs.
 -- Assumes nothing.
 use Prim.Native.Nat.{ℕ, ◌+◌, ◌-◌, ◌/◌, ◌%◌, ◌<◌, ◌≤◌}
-use mathlib.Core.Path.{◌≡◌, refl, sym, ◌∙◌}
+use mathlib.Core.Path.{◌≡◌, refl}
 use mathlib.Core.Bool.{Bool, true, false, cond}
 use native.Mathlib.Omega.{arith}
 use lib.Dec.{eqb}
 use borrow.Author.Tests.{eqb-true, ne_eqb}
-use Rattle.word.specs.Widths.{sign_extend_of}
 use Rattle.word.proofs.CaseLaws.{by_test}
 use Rattle.isa.specs.declared.ModeEntry.{ModeEntry}
 use Rattle.isa.specs.declared.ModeEntry.TheVariants as mode
@@ -14,8 +13,9 @@ use Rattle.isa.specs.declared.Text.{Text}
 use Rattle.isa.specs.Lengths.{following}
 use Rattle.isa.specs.Decode.{joined, mode_entry, cpu_prefix}
 use Rattle.isa.specs.Carried.{called_for}
-use Rattle.decode.specs.Forms.{absolute_of}
-use Rattle.decode.proofs.DyadicLaws.{by_absolute}
+use Rattle.isa.specs.declared.Mode.{Mode}
+use Rattle.isa.specs.declared.Mode.TheVariants.{AbsoluteByte}
+use Rattle.isa.specs.Decode.{extended}
 use Rattle.form_bit.specs.Shapes.{Extends}
 use Rattle.form_bit.specs.SetApart.{return_offset, enter_offset, by_sign}
 use Rattle.form_bit.specs.FormBit.{is_prefixed, form_text, Paired}
@@ -70,12 +70,12 @@ module _ (pre : Bool) (q a : ℕ) where
       }
 
 -- a field of zeros extends one
-either_zero : (b : Bool) → cond b 0 (sign_extend_of 16 0) ≡ 0
-either_zero true = refl
-either_zero false = refl
+zero_extended : (m : Mode) → 0 ≡ extended m 0
+zero_extended AbsoluteByte = refl
+zero_extended m = refl
 
 extends_zero : (e : ModeEntry) → Extends e 0 0
-extends_zero (mode.General m) = sym (by_absolute m 0 ∙ either_zero (absolute_of m))
+extends_zero (mode.General m) = zero_extended m
 extends_zero mode.Register = refl
 extends_zero mode.Unlisted = tt
 

@@ -10,8 +10,7 @@ use Rattle.word.proofs.CaseLaws.{by_test}
 use Rattle.isa.specs.declared.Wide.TheVariants.{Three, Five}
 use Rattle.isa.specs.declared.Instruction.TheVariants as instruction
 use Rattle.isa.specs.declared.Text.{Text}
-use Rattle.isa.specs.declared.Decoded.{Decoded}
-use Rattle.isa.specs.declared.Decoded.TheVariants as answer
+use Rattle.isa.specs.declared.Undecoded.TheVariants as answer
 use Rattle.isa.specs.Decode.{decode_dyadic, decode_monadic, decode_of, text_of}
 use Rattle.isa.proofs.AnswerLaws.{same_decoded}
 use Rattle.roundtrip.proofs.LengthLaws.{three_dyadic, three_monadic}
@@ -23,24 +22,26 @@ use Rattle.form_bit.proofs.DyadicLaws.{dyadic_shape_law, dyadic_five}
 use Rattle.form_bit.proofs.MonadicLaws.{shape_number, five_none, same_shape, other_shape, differs_by_sign}
 use Rattle.form_bit.proofs.TextLaws.{same_bits, three_answer, five_answer}
 use Rattle.form_bit.proofs.SetApartLaws.{set_apart_below}
+use Rattle.std.specs.Prelude.{Ok, Err}
+use Rattle.isa.specs.Answers.{Decoded}
 
 -- ---- answers that are no instruction
 
 abbrev no_instruction : Shape → Decoded
-no_instruction (short_shape r) = answer.Illegal
-no_instruction (dyadic_shape r pre a b) = answer.Illegal
-no_instruction (monadic_shape r pre m) = answer.Illegal
-no_instruction illegal_shape = answer.Illegal
-no_instruction (unimplemented_shape v) = answer.Unimplemented v
-no_instruction truncated_shape = answer.Truncated
+no_instruction (short_shape r) = Err answer.Illegal
+no_instruction (dyadic_shape r pre a b) = Err answer.Illegal
+no_instruction (monadic_shape r pre m) = Err answer.Illegal
+no_instruction illegal_shape = Err answer.Illegal
+no_instruction (unimplemented_shape v) = Err (answer.Unimplemented v)
+no_instruction truncated_shape = Err answer.Truncated
 
 same_none : (s : Decoded) → (shape_number (shape_of s) ≡ 0 → ⊥) → (s ≡ no_instruction (shape_of s)) × (at_five s ≡ no_instruction (shape_of s))
-same_none (answer.Is (instruction.Short i) n) h = absurd (h refl)
-same_none (answer.Is (instruction.Dyadic i) n) h = absurd (h refl)
-same_none (answer.Is (instruction.Monadic i) n) h = absurd (h refl)
-same_none answer.Illegal h = (refl, refl)
-same_none (answer.Unimplemented v) h = (refl, refl)
-same_none answer.Truncated h = (refl, refl)
+same_none (Ok (instruction.Short i, n)) h = absurd (h refl)
+same_none (Ok (instruction.Dyadic i, n)) h = absurd (h refl)
+same_none (Ok (instruction.Monadic i, n)) h = absurd (h refl)
+same_none (Err answer.Illegal) h = (refl, refl)
+same_none (Err (answer.Unimplemented v)) h = (refl, refl)
+same_none (Err answer.Truncated) h = (refl, refl)
 
 none_at_five : (r s : Decoded) → shape_of r ≡ shape_of s → (shape_number (shape_of s) ≡ 0 → ⊥) → s ≡ at_five r
 none_at_five r s e h =

@@ -13,16 +13,14 @@ use Rattle.isa.specs.declared.MonadicRow.{MonadicRow}
 use Rattle.isa.specs.declared.MonadicRule.{MonadicRule}
 use Rattle.isa.specs.declared.MonadicRule.TheVariants as rule
 use Rattle.isa.specs.declared.MonadicMode.{MonadicMode}
-use Rattle.isa.specs.declared.MonadicModeEntry.{MonadicModeEntry}
-use Rattle.isa.specs.declared.MonadicModeEntry.TheVariants as place
-use Rattle.isa.specs.declared.MonadicEntry.{MonadicEntry}
-use Rattle.isa.specs.declared.MonadicEntry.TheVariants as single
-use Rattle.isa.specs.Tables.{monadic_of, monadic_mode_of}
+use Rattle.isa.specs.declared.Entry.TheVariants as single
+use Rattle.isa.specs.Tables.{monadic_of, monadic_mode_of, MonadicEntry}
 use Rattle.isa.specs.Legal.{negative, monadic_legal_of}
 use Rattle.isa.specs.Decode.{monadic_found, monadic_answer, decode_monadic, decode_dyadic}
 use Rattle.form_bit.specs.Shapes.{Shape, short_shape, dyadic_shape, monadic_shape, illegal_shape, unimplemented_shape, truncated_shape, shape_of}
 use Rattle.form_bit.specs.SetApart.{is_set_apart, by_sign}
 use Rattle.form_bit.proofs.DyadicLaws.{of_choice, SameBits, shape_at, dyadic_shape_law}
+use Rattle.std.specs.Prelude.{Option, Some, None}
 
 -- ---- of an operand's value the sign alone counts
 
@@ -42,11 +40,11 @@ legal_by_sign rule.Jump m v = refl
 legal_by_sign rule.Stack m v = rw (sign_of (negative v)) refl
 legal_by_sign rule.Enter m v = rw (sign_of (negative v)) refl
 
-found_shape : (r : MonadicRow) (u : MonadicRule) (pre : Bool) (e : MonadicModeEntry) (v : ℕ)
+found_shape : (r : MonadicRow) (u : MonadicRule) (pre : Bool) (e : Option MonadicMode) (v : ℕ)
     → shape_of (monadic_found r u pre e v) ≡ shape_of (monadic_found r u pre e (signed (negative v)))
-found_shape r u pre (place.Is m) v =
+found_shape r u pre (Some m) v =
     rw (legal_by_sign u m v, of_choice shape_of (monadic_legal_of u m (signed (negative v))) _ _, of_choice shape_of (monadic_legal_of u m (signed (negative v))) _ _) refl
-found_shape r u pre place.Unlisted v = refl
+found_shape r u pre None v = refl
 
 answer_shape : (e : MonadicEntry) (pre : Bool) (k v : ℕ) → shape_of (monadic_answer e pre k v) ≡ shape_of (monadic_answer e pre k (signed (negative v)))
 answer_shape (single.Row r u) pre k v = found_shape r u pre (monadic_mode_of u k) v

@@ -4,12 +4,12 @@ use contract.Lifetimes.{Lfts}
 use Rattle.std.specs.Borrow.{Bor}
 use denote.Triple.Clauses.{at_exit}
 use Rattle.isa.specs.declared.Text.{Text}
-use Rattle.isa.specs.declared.Decoded.{Decoded}
 use Rattle.isa.specs.Decode.{decode_of, text_of}
 use Rattle.decode.specs.contracts.decode_text as decode_text
 use Rattle.decode.proofs.decode_text.Reads as decode_text_contract
 use Rattle.decode.specs.contracts.decode as decode
 use Rattle.decode.proofs.decode.Reads as decode_contract
+use Rattle.isa.specs.Answers.{Decoded}
 
 -- the definition's answer
 abbrev pub Defined : Text → Decoded → Type 0

@@ -3,12 +3,12 @@
 use Rattle.std.specs.Prelude.{ℕ, ◌+◌, ◌/◌, ◌%◌, ◌<◌, ◌≤◌, ◌≡◌, Bool, true, false, eqb}
 use Rattle.isa.specs.declared.Wide.TheVariants.{Three, Five}
 use Rattle.isa.specs.declared.Text.{Text}
-use Rattle.isa.specs.declared.Decoded.{Decoded}
 use Rattle.isa.specs.Decode.{joined, mode_entry, cpu_prefix}
 use Rattle.isa.specs.Carried.{called_for}
 use Rattle.decode.specs.Forms.{first_of, second_of, rest_of}
 use Rattle.form_bit.specs.Shapes.{shape_of, at_five, Extends}
 use Rattle.form_bit.specs.SetApart.{is_set_apart, by_sign}
+use Rattle.isa.specs.Answers.{Decoded}
 
 -- ---- two texts
 

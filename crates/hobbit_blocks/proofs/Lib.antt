@@ -1,3 +1,1 @@
 pub mod RoundTrip
-pub mod WordLaws
-pub mod BlockLaws

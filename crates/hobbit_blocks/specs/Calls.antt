@@ -1,15 +1,13 @@
 -- Decoding into a block and encoding from one, with numbers for what is no instruction.
 -- Assumes nothing.
-use Rattle.std.specs.Prelude.{ℕ, ◌+◌, List, [], ◌∷◌}
+use Rattle.std.specs.Prelude.{ℕ, ◌+◌, List, [], ◌∷◌, Some, None, Ok, Err, Option}
+use Rattle.isa.specs.declared.Instruction.{Instruction}
 use Rattle.isa.specs.declared.Text.{Text}
-use Rattle.isa.specs.declared.Decoded.{Decoded}
-use Rattle.isa.specs.declared.Decoded.TheVariants as answer
-use Rattle.isa.specs.declared.Encoded.{Encoded}
-use Rattle.isa.specs.declared.Encoded.TheVariants as encoded
-use Rattle.isa.specs.Answers.{illegal_number, no_encoding, truncated_text}
+use Rattle.isa.specs.declared.Undecoded.TheVariants as answer
+use Rattle.isa.specs.Answers.{illegal_number, no_encoding, truncated_text, Decoded, Encoded}
 use Rattle.isa.specs.Decode.{decode_of, text_of}
 use Rattle.isa.specs.Encode.{encode_of}
-use Rattle.hobbit_blocks.specs.Numbering.{Named, named, nothing, block_of, instruction_in}
+use Rattle.hobbit_blocks.specs.Numbering.{block_of, instruction_in}
 
 -- a number, and what a call left where it writes
 pub record CallAnswer : Type 0 where
@@ -25,10 +23,10 @@ no_instruction = 0x100
 
 -- b is the block before: only an instruction changes it
 abbrev pub decoded_as : Decoded → List ℕ → CallAnswer
-decoded_as (answer.Is i n) b = call_answer 0 (block_of i n)
-decoded_as answer.Illegal b = call_answer (no_instruction + illegal_number) b
-decoded_as (answer.Unimplemented v) b = call_answer (no_instruction + v) b
-decoded_as answer.Truncated b = call_answer truncated_text b
+decoded_as (Ok (i, n)) b = call_answer 0 (block_of i n)
+decoded_as (Err answer.Illegal) b = call_answer (no_instruction + illegal_number) b
+decoded_as (Err (answer.Unimplemented v)) b = call_answer (no_instruction + v) b
+decoded_as (Err answer.Truncated) b = call_answer truncated_text b
 
 abbrev pub decoded_into : List ℕ → List ℕ → CallAnswer
 decoded_into ps b = decoded_as (decode_of (text_of ps)) b
@@ -39,13 +37,13 @@ six_of t = t.p0 ∷ t.p1 ∷ t.p2 ∷ t.p3 ∷ t.p4 ∷ t.p5 ∷ []
 
 -- ps are the parcels before: only an encoding changes them
 abbrev pub encoded_as : Encoded → List ℕ → CallAnswer
-encoded_as (encoded.Parcels t) ps = call_answer 0 (six_of t)
-encoded_as encoded.NoCode ps = call_answer no_encoding ps
+encoded_as (Some t) ps = call_answer 0 (six_of t)
+encoded_as None ps = call_answer no_encoding ps
 
 -- what names no instruction has no code
-abbrev pub code_of : Named → ℕ → Encoded
-code_of (named i) n = encode_of i n
-code_of nothing n = encoded.NoCode
+abbrev pub code_of : Option Instruction → ℕ → Encoded
+code_of (Some i) n = encode_of i n
+code_of None n = None
 
 abbrev pub encoded_from : List ℕ → ℕ → List ℕ → CallAnswer
 encoded_from b n ps = encoded_as (code_of (instruction_in b) n) ps

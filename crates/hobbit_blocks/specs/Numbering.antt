@@ -11,13 +11,10 @@
 -- tables have at its number. What is not of this shape, or has a length that is not its form's and its prefix's, names no
 -- instruction: proofs/RoundTrip.antt shows that blocks and instructions are each other's.
 -- Assumes nothing.
-use Rattle.std.specs.Prelude.{ℕ, ◌+◌, Bool, cond, ◌&&◌, List, [], ◌∷◌, length, get_or, ltb, leb, eqb}
+use Rattle.std.specs.Prelude.{ℕ, ◌+◌, Bool, cond, ◌&&◌, List, [], ◌∷◌, length, get_or, ltb, leb, eqb, Option, Some, None}
 use Rattle.isa.specs.declared.ShortEntry.{ShortEntry}
 use Rattle.isa.specs.declared.ShortEntry.TheVariants as short
-use Rattle.isa.specs.declared.DyadicEntry.{DyadicEntry}
-use Rattle.isa.specs.declared.DyadicEntry.TheVariants as dyadic
-use Rattle.isa.specs.declared.MonadicEntry.{MonadicEntry}
-use Rattle.isa.specs.declared.MonadicEntry.TheVariants as monadic
+use Rattle.isa.specs.declared.Entry.TheVariants as place
 use Rattle.isa.specs.declared.Mode.{Mode}
 use Rattle.isa.specs.declared.Mode.TheVariants.{Immediate}
 use Rattle.isa.specs.declared.ModeEntry.{ModeEntry}
@@ -25,25 +22,18 @@ use Rattle.isa.specs.declared.ModeEntry.TheVariants as mode
 use Rattle.isa.specs.declared.MonadicRule.TheVariants as rule
 use Rattle.isa.specs.declared.MonadicMode.{MonadicMode}
 use Rattle.isa.specs.declared.MonadicMode.TheVariants.{WordAbsolute, WordStack, WordIndirect, WordImmediate, FlowAbsoluteIndirect, FlowStackIndirect, FlowRelative, FlowAbsolute}
-use Rattle.isa.specs.declared.MonadicModeEntry.{MonadicModeEntry}
-use Rattle.isa.specs.declared.MonadicModeEntry.TheVariants as place
 use Rattle.isa.specs.declared.Operand.{Operand}
 use Rattle.isa.specs.declared.Operand.TheVariants.{General, Register}
 use Rattle.isa.specs.declared.Wide.{Wide}
 use Rattle.isa.specs.declared.Wide.TheVariants.{Three, Five}
 use Rattle.isa.specs.declared.Instruction.{Instruction}
 use Rattle.isa.specs.declared.Instruction.TheVariants as instruction
-use Rattle.isa.specs.Tables.{short_of, dyadic_of, monadic_of, general_of, monadic_mode_of}
+use Rattle.isa.specs.Tables.{short_of, dyadic_of, monadic_of, general_of, monadic_mode_of, DyadicEntry, MonadicEntry}
 use Rattle.isa.specs.Fields.{short_opcode}
 use Rattle.isa.specs.Decode.{short_entry}
 use Rattle.isa.specs.Encodings.{short_listed, dyadic_listed, monadic_listed}
 use Rattle.isa.specs.Lengths.{short_length, wide_length, prefix_length}
 use Rattle.isa.specs.Encode.{mode_code, operand_raw}
-
--- what a block holds
-pub data Named : Type 0 where
-  named : Instruction → Named
-  nothing : Named
 
 -- ---- the block of an instruction with its length
 
@@ -78,24 +68,24 @@ block_of (instruction.Monadic i) n =
 -- ---- the instruction in a block: row r, length w, prefix p, source mode s and value x, destination mode d and value y
 
 -- one parcel: the row that the tables have at r, if r has no operand bits
-abbrev pub short_named : ShortEntry → ℕ → ℕ → ℕ → Named
+abbrev pub short_named : ShortEntry → ℕ → ℕ → ℕ → Option Instruction
 short_named (short.Row q s d) r x y =
     cond (eqb (short_listed q).base r)
-    (named (instruction.Short (record { row = q; source = x; destination = y })))
-    nothing
-short_named short.Stack r x y = nothing
-short_named short.Niladic r x y = nothing
-short_named short.Prefix r x y = nothing
-short_named short.Unimplemented r x y = nothing
-short_named short.Trap r x y = nothing
-short_named short.Unlisted r x y = nothing
+    (Some (instruction.Short (record { row = q; source = x; destination = y })))
+    None
+short_named short.Stack r x y = None
+short_named short.Niladic r x y = None
+short_named short.Prefix r x y = None
+short_named short.Unimplemented r x y = None
+short_named short.Trap r x y = None
+short_named short.Unlisted r x y = None
 
 abbrev pub is_short : ℕ → ℕ → ℕ → ℕ → ℕ → Bool
 is_short r w p s d = ltb r 0x8000 && eqb w short_length && eqb p 0 && eqb s 0 && eqb d 0
 
-unfoldable pub short_in : ℕ → ℕ → ℕ → ℕ → ℕ → ℕ → ℕ → Named
+unfoldable pub short_in : ℕ → ℕ → ℕ → ℕ → ℕ → ℕ → ℕ → Option Instruction
 short_in r w p s x d y =
-    cond (is_short r w p s d) (short_named (short_entry (short_of (short_opcode r)) r) r x y) nothing
+    cond (is_short r w p s d) (short_named (short_entry (short_of (short_opcode r)) r) r x y) None
 
 -- the length is the form's and the prefix's
 abbrev pub length_agrees : Wide → ℕ → ℕ → Bool
@@ -110,45 +100,45 @@ mode_at mode.Unlisted = Immediate
 abbrev pub operand_in : ℕ → ℕ → Operand
 operand_in k v = cond (eqb k register_mode) (Register v) (General (mode_at (general_of k)) v)
 
-abbrev pub dyadic_named : DyadicEntry → Wide → ℕ → Operand → Operand → Named
-dyadic_named (dyadic.Row q u) w p a b =
-    named (instruction.Dyadic (record { row = q; wide = w; prefix = eqb p 1; source = a; destination = b }))
-dyadic_named dyadic.Unimplemented w p a b = nothing
-dyadic_named dyadic.Unlisted w p a b = nothing
+abbrev pub dyadic_named : DyadicEntry → Wide → ℕ → Operand → Operand → Option Instruction
+dyadic_named (place.Row q u) w p a b =
+    Some (instruction.Dyadic (record { row = q; wide = w; prefix = eqb p 1; source = a; destination = b }))
+dyadic_named place.Unimplemented w p a b = None
+dyadic_named place.Unlisted w p a b = None
 
 abbrev pub is_dyadic : ℕ → ℕ → ℕ → Bool
 is_dyadic p s d = ltb p 2 && leb s register_mode && leb d register_mode
 
-unfoldable pub dyadic_in : Wide → ℕ → ℕ → ℕ → ℕ → ℕ → ℕ → Named
-dyadic_in w r p s x d y = cond (is_dyadic p s d) (dyadic_named (dyadic_of r) w p (operand_in s x) (operand_in d y)) nothing
+unfoldable pub dyadic_in : Wide → ℕ → ℕ → ℕ → ℕ → ℕ → ℕ → Option Instruction
+dyadic_in w r p s x d y = cond (is_dyadic p s d) (dyadic_named (dyadic_of r) w p (operand_in s x) (operand_in d y)) None
 
 -- one operand: the word modes of Table 1-21, then the modes of Table 1-23, both from their code 0xC on
-abbrev pub monadic_mode_in : ℕ → MonadicModeEntry
+abbrev pub monadic_mode_in : ℕ → Option MonadicMode
 monadic_mode_in k =
-    cond (ltb k 4) (monadic_mode_of rule.Word (k + 0xC)) (cond (ltb k 8) (monadic_mode_of rule.Flow (k + 8)) place.Unlisted)
+    cond (ltb k 4) (monadic_mode_of rule.Word (k + 0xC)) (cond (ltb k 8) (monadic_mode_of rule.Flow (k + 8)) None)
 
-abbrev pub monadic_named : MonadicEntry → ℕ → MonadicModeEntry → ℕ → Named
-monadic_named (monadic.Row q u) p (place.Is m) x =
-    named (instruction.Monadic (record { row = q; prefix = eqb p 1; mode = m; value = x }))
-monadic_named (monadic.Row q u) p place.Unlisted x = nothing
-monadic_named monadic.Unimplemented p m x = nothing
-monadic_named monadic.Unlisted p m x = nothing
+abbrev pub monadic_named : MonadicEntry → ℕ → Option MonadicMode → ℕ → Option Instruction
+monadic_named (place.Row q u) p (Some m) x =
+    Some (instruction.Monadic (record { row = q; prefix = eqb p 1; mode = m; value = x }))
+monadic_named (place.Row q u) p None x = None
+monadic_named place.Unimplemented p m x = None
+monadic_named place.Unlisted p m x = None
 
 abbrev pub is_monadic : ℕ → ℕ → ℕ → ℕ → Bool
 is_monadic w p d y = length_agrees Three w p && ltb p 2 && eqb d 0 && eqb y 0
 
-unfoldable pub monadic_in : ℕ → ℕ → ℕ → ℕ → ℕ → ℕ → ℕ → Named
-monadic_in r w p m x d y = cond (is_monadic w p d y) (monadic_named (monadic_of r) p (monadic_mode_in m) x) nothing
+unfoldable pub monadic_in : ℕ → ℕ → ℕ → ℕ → ℕ → ℕ → ℕ → Option Instruction
+monadic_in r w p m x d y = cond (is_monadic w p d y) (monadic_named (monadic_of r) p (monadic_mode_in m) x) None
 
-unfoldable pub kind_in : ℕ → ℕ → ℕ → ℕ → ℕ → ℕ → ℕ → ℕ → Named
+unfoldable pub kind_in : ℕ → ℕ → ℕ → ℕ → ℕ → ℕ → ℕ → ℕ → Option Instruction
 kind_in k r w p s x d y =
     cond (eqb k 1) (short_in r w p s x d y)
     (cond (eqb k 2 && length_agrees Three w p) (dyadic_in Three r p s x d y)
     (cond (eqb k 2 && length_agrees Five w p) (dyadic_in Five r p s x d y)
-    (cond (eqb k 3) (monadic_in r w p s x d y) nothing)))
+    (cond (eqb k 3) (monadic_in r w p s x d y) None)))
 
-unfoldable pub instruction_in : List ℕ → Named
+unfoldable pub instruction_in : List ℕ → Option Instruction
 instruction_in b =
     cond (eqb (length b) 8)
     (kind_in (get_or b 0 0) (get_or b 1 0) (get_or b 2 0) (get_or b 3 0) (get_or b 4 0) (get_or b 5 0) (get_or b 6 0) (get_or b 7 0))
-    nothing
+    None

@@ -1,6 +1,5 @@
 // The block of an instruction.
 ghost use Rattle.std.specs.Prelude.{◌≡◌, length};
-ghost use Rattle.isa.specs.Encode.{operand_raw};
 ghost use Rattle.hobbit_blocks.specs.Numbering.{operand_mode, monadic_mode_place, block_of};
 
 use crate::REGISTER_MODE;
@@ -16,15 +15,6 @@ fn operand_mode(o: Operand) -> u32
     match o {
         Operand::General(m, _) => mode_code(m),
         Operand::Register(_) => REGISTER_MODE,
-    }
-}
-
-fn operand_value(o: Operand) -> u32
-    ensures { result ≡ operand_raw o }
-{
-    match o {
-        Operand::General(_, v) => v,
-        Operand::Register(n) => n,
     }
 }
 
@@ -50,36 +40,36 @@ pub fn block_of(i: Instruction, n: u32) -> [u32; 8]
 {
     match i {
         Instruction::Short(o) => {
-            let row = o.row;
-            let listed = list_short(row);
-            [1, listed.base, n, 0, 0, o.source, 0, o.destination]
+            [
+                1,
+                list_short(o.row).base,
+                n,
+                0,
+                0,
+                o.source,
+                0,
+                o.destination,
+            ]
         }
         Instruction::Dyadic(o) => {
-            let row = o.row;
-            let s = o.source;
-            let d = o.destination;
-            let listed = list_dyadic(row);
             [
                 2,
-                listed.opcode,
+                list_dyadic(o.row).opcode,
                 n,
                 prefix_length(o.prefix),
-                operand_mode(s),
-                operand_value(s),
-                operand_mode(d),
-                operand_value(d),
+                operand_mode(o.source),
+                o.source.raw(),
+                operand_mode(o.destination),
+                o.destination.raw(),
             ]
         }
         Instruction::Monadic(o) => {
-            let row = o.row;
-            let mode = o.mode;
-            let listed = list_monadic(row);
             [
                 3,
-                listed.subcode,
+                list_monadic(o.row).subcode,
                 n,
                 prefix_length(o.prefix),
-                mode_place(mode),
+                mode_place(o.mode),
                 o.value,
                 0,
                 0,

@@ -8,9 +8,10 @@ ghost use Rattle.std.specs.Prelude.{◌≡◌};
 ghost use Rattle.hobbit_blocks.specs.Calls.{call_answer, decoded_into, encoded_from};
 
 use crate::blocks::block_of;
-use crate::words::encode_block;
+use crate::words::instruction_in;
 use decode::decode;
-use isa::{Decoded, Encoded};
+use encode::encode;
+use isa::Undecoded;
 
 // The mode word of a register, after the sixteen modes of Table 1-21.
 const REGISTER_MODE: u32 = 16;
@@ -25,19 +26,19 @@ const NO_INSTRUCTION: u32 = 0x100;
 
 const ILLEGAL: u32 = 0x3;
 
-// 0 and the instruction in the block; else a number that says why not, and the block as it was.
+// 0 and the instruction in the block; else a number that says why not, and the block as it was. It is no `Result`, since the C
+// interface hands the number on.
 pub fn decode_into(parcels: &[u16], block: &mut [u32; 8]) -> u32
     ensures { call_answer result block.new ≡ decoded_into parcels.now block.old }
 {
-    let a = decode(parcels);
-    match a {
-        Decoded::Is(i, n) => {
+    match decode(parcels) {
+        Ok((i, n)) => {
             *block = block_of(i, n);
             0
         }
-        Decoded::Illegal => NO_INSTRUCTION + ILLEGAL,
-        Decoded::Unimplemented(v) => NO_INSTRUCTION + v,
-        Decoded::Truncated => CUT_TEXT,
+        Err(Undecoded::Illegal) => NO_INSTRUCTION + ILLEGAL,
+        Err(Undecoded::Unimplemented(v)) => NO_INSTRUCTION + v,
+        Err(Undecoded::Truncated) => CUT_TEXT,
     }
 }
 
@@ -46,12 +47,12 @@ pub fn decode_into(parcels: &[u16], block: &mut [u32; 8]) -> u32
 pub fn encode_from(block: &[u32; 8], length: u32, parcels: &mut [u16; 6]) -> u32
     ensures { call_answer result parcels.new ≡ encoded_from block.now length parcels.old }
 {
-    let e = encode_block(*block, length);
-    match e {
-        Encoded::Parcels(t) => {
-            *parcels = [t.p0, t.p1, t.p2, t.p3, t.p4, t.p5];
-            0
-        }
-        Encoded::NoCode => NO_CODE,
-    }
+    let Some(i) = instruction_in(*block) else {
+        return NO_CODE;
+    };
+    let Some(t) = encode(i, length) else {
+        return NO_CODE;
+    };
+    *parcels = [t.p0, t.p1, t.p2, t.p3, t.p4, t.p5];
+    0
 }

@@ -1,10 +1,6 @@
-// The code of the instruction in a block, at a length n in parcels. Words after the kind: row r, length w, prefix p, source
-// mode s and value x, destination mode d and value y.
+// The instruction in a block.
 ghost use Rattle.std.specs.Prelude.{◌≡◌};
-ghost use Rattle.isa.specs.declared.FieldMode.{FieldMode};
-ghost use Rattle.isa.specs.declared.ShortEntry.TheVariants as short;
-ghost use Rattle.hobbit_blocks.specs.Numbering.{short_named, short_in, length_agrees, operand_in, dyadic_in, monadic_mode_in, monadic_in, instruction_in};
-ghost use Rattle.hobbit_blocks.specs.Calls.{code_of};
+ghost use Rattle.hobbit_blocks.specs.Numbering.{short_in, length_agrees, operand_in, dyadic_in, monadic_mode_in, monadic_in, instruction_in};
 
 use crate::REGISTER_MODE;
 use decode::fields::short_opcode;
@@ -12,160 +8,152 @@ use decode::short::find_entry;
 use decode_tables::modes::{find_general, find_monadic_mode};
 use decode_tables::parcel::find_short;
 use decode_tables::wide::{find_dyadic, find_monadic};
-use encode::encode;
 use encode_tables::rows::list_short;
 use isa::lengths::{SHORT_LENGTH, prefix_length, wide_length};
 use isa::{
-    DyadicEntry, DyadicInstruction, Encoded, Instruction, Mode, ModeEntry, MonadicEntry,
-    MonadicInstruction, MonadicModeEntry, MonadicRule, Operand, ShortEntry, ShortInstruction,
-    ShortRow, Wide,
+    DyadicInstruction, Entry, Instruction, Mode, ModeEntry, MonadicInstruction, MonadicMode,
+    MonadicRule, Operand, ShortEntry, ShortInstruction, Wide,
 };
 
-// The row q with operands x and y, which r names if it has no operand bits.
-fn row_code(q: ShortRow, r: u32, x: u32, y: u32, n: u32) -> Encoded
-    ensures { (s d : FieldMode) → result ≡ code_of (short_named (short.Row q s d) r x y) n }
-{
-    let listed = list_short(q);
-    if listed.base != r {
-        return Encoded::NoCode;
-    }
-    encode(
-        Instruction::Short(ShortInstruction {
-            row: q,
-            source: x,
-            destination: y,
-        }),
-        n,
-    )
+// The words of a block after its kind.
+#[derive(Clone, Copy)]
+struct Words {
+    row: u32,
+    length: u32,
+    prefix: u32,
+    source_mode: u32,
+    source: u32,
+    destination_mode: u32,
+    destination: u32,
 }
 
-fn short_code(r: u32, w: u32, p: u32, s: u32, x: u32, d: u32, y: u32, n: u32) -> Encoded
-    ensures { result ≡ code_of (short_in r w p s x d y) n }
-{
-    if !((r < 0x8000) & (w == SHORT_LENGTH) & (p == 0) & (s == 0) & (d == 0)) {
-        return Encoded::NoCode;
-    }
-    let e = find_entry(find_short(short_opcode(r)), r as u16);
-    match e {
-        ShortEntry::Row(q, _, _) => row_code(q, r, x, y, n),
-        ShortEntry::Stack => Encoded::NoCode,
-        ShortEntry::Niladic => Encoded::NoCode,
-        ShortEntry::Prefix => Encoded::NoCode,
-        ShortEntry::Unimplemented => Encoded::NoCode,
-        ShortEntry::Trap => Encoded::NoCode,
-        ShortEntry::Unlisted => Encoded::NoCode,
-    }
-}
-
-// The length is the form's and the prefix's.
-fn length_agrees(f: Wide, w: u32, p: u32) -> bool
-    ensures { result ≡ length_agrees f w p }
-{
-    w == wide_length(f) + prefix_length(p == 1)
-}
-
-// Whoever asks has tested the mode's number: the last two arms are never taken.
+// Whoever asks has tested the mode's number: no mode of another number is ever taken.
 fn operand_in(k: u32, v: u32) -> Operand
     ensures { result ≡ operand_in k v }
 {
     if k == REGISTER_MODE {
         return Operand::Register(v);
     }
-    let e = find_general(k);
-    match e {
+    match find_general(k) {
         ModeEntry::General(m) => Operand::General(m, v),
-        ModeEntry::Register => Operand::General(Mode::Immediate, v),
-        ModeEntry::Unlisted => Operand::General(Mode::Immediate, v),
-    }
-}
-
-fn dyadic_code(w: Wide, r: u32, p: u32, s: u32, x: u32, d: u32, y: u32, n: u32) -> Encoded
-    ensures { result ≡ code_of (dyadic_in w r p s x d y) n }
-{
-    if (p < 2) & (s <= REGISTER_MODE) & (d <= REGISTER_MODE) {
-        let e = find_dyadic(r);
-        match e {
-            DyadicEntry::Row(q, _) => encode(
-                Instruction::Dyadic(DyadicInstruction {
-                    row: q,
-                    wide: w,
-                    prefix: p == 1,
-                    source: operand_in(s, x),
-                    destination: operand_in(d, y),
-                }),
-                n,
-            ),
-            DyadicEntry::Unimplemented => Encoded::NoCode,
-            DyadicEntry::Unlisted => Encoded::NoCode,
-        }
-    } else {
-        Encoded::NoCode
+        ModeEntry::Register | ModeEntry::Unlisted => Operand::General(Mode::Immediate, v),
     }
 }
 
 // The word modes come first, then those of CALL and JMP.
-fn monadic_mode_in(k: u32) -> MonadicModeEntry
+fn monadic_mode_in(k: u32) -> Option<MonadicMode>
     ensures { result ≡ monadic_mode_in k }
 {
-    if k < 4 {
-        return find_monadic_mode(MonadicRule::Word, k + 0xC);
+    match k {
+        0..=3 => find_monadic_mode(MonadicRule::Word, k + 0xC),
+        4..=7 => find_monadic_mode(MonadicRule::Flow, k + 8),
+        _ => None,
     }
-    if k < 8 {
-        return find_monadic_mode(MonadicRule::Flow, k + 8);
-    }
-    MonadicModeEntry::Unlisted
 }
 
-fn monadic_code(r: u32, w: u32, p: u32, s: u32, x: u32, d: u32, y: u32, n: u32) -> Encoded
-    ensures { result ≡ code_of (monadic_in r w p s x d y) n }
-{
-    if length_agrees(Wide::Three, w, p) & (p < 2) & (d == 0) & (y == 0) {
-        let mode = monadic_mode_in(s);
-        let e = find_monadic(r);
-        match e {
-            MonadicEntry::Row(q, _) => match mode {
-                MonadicModeEntry::Is(m) => encode(
-                    Instruction::Monadic(MonadicInstruction {
-                        row: q,
-                        prefix: p == 1,
-                        mode: m,
-                        value: x,
-                    }),
-                    n,
-                ),
-                MonadicModeEntry::Unlisted => Encoded::NoCode,
-            },
-            MonadicEntry::Unimplemented => Encoded::NoCode,
-            MonadicEntry::Unlisted => Encoded::NoCode,
+impl Words {
+    // A row without operand bits, and no word that one parcel has no use for.
+    fn short_in(self) -> Option<Instruction>
+        ensures { result ≡ short_in self.row self.length self.prefix self.source_mode self.source self.destination_mode self.destination }
+    {
+        if 0x8000 <= self.row
+            || self.length != SHORT_LENGTH
+            || self.prefix != 0
+            || self.source_mode != 0
+            || self.destination_mode != 0
+        {
+            return None;
         }
-    } else {
-        Encoded::NoCode
+        match find_entry(find_short(short_opcode(self.row)), self.row as u16) {
+            ShortEntry::Row(row, _, _) if list_short(row).base == self.row => {
+                Some(Instruction::Short(ShortInstruction {
+                    row,
+                    source: self.source,
+                    destination: self.destination,
+                }))
+            }
+            _ => None,
+        }
+    }
+
+    // The length is the form's and the prefix's.
+    fn length_agrees(self, wide: Wide) -> bool
+        ensures { result ≡ length_agrees wide self.length self.prefix }
+    {
+        self.length == wide_length(wide) + prefix_length(self.prefix == 1)
+    }
+
+    fn dyadic_in(self, wide: Wide) -> Option<Instruction>
+        ensures { result ≡ dyadic_in wide self.row self.prefix self.source_mode self.source self.destination_mode self.destination }
+    {
+        if 1 < self.prefix
+            || REGISTER_MODE < self.source_mode
+            || REGISTER_MODE < self.destination_mode
+        {
+            return None;
+        }
+        match find_dyadic(self.row) {
+            Entry::Row(row, _) => Some(Instruction::Dyadic(DyadicInstruction {
+                row,
+                wide,
+                prefix: self.prefix == 1,
+                source: operand_in(self.source_mode, self.source),
+                destination: operand_in(self.destination_mode, self.destination),
+            })),
+            Entry::Unimplemented | Entry::Unlisted => None,
+        }
+    }
+
+    fn monadic_in(self) -> Option<Instruction>
+        ensures { result ≡ monadic_in self.row self.length self.prefix self.source_mode self.source self.destination_mode self.destination }
+    {
+        if !self.length_agrees(Wide::Three)
+            || 1 < self.prefix
+            || self.destination_mode != 0
+            || self.destination != 0
+        {
+            return None;
+        }
+        match (find_monadic(self.row), monadic_mode_in(self.source_mode)) {
+            (Entry::Row(row, _), Some(mode)) => Some(Instruction::Monadic(MonadicInstruction {
+                row,
+                prefix: self.prefix == 1,
+                mode,
+                value: self.source,
+            })),
+            _ => None,
+        }
     }
 }
 
 // By value, since of a lent block it is not known that it has eight words.
-pub fn encode_block(b: [u32; 8], n: u32) -> Encoded
-    ensures { result ≡ code_of (instruction_in b) n }
+pub fn instruction_in(block: [u32; 8]) -> Option<Instruction>
+    ensures { result ≡ instruction_in block }
 {
-    let kind = b[0];
-    let r = b[1];
-    let w = b[2];
-    let p = b[3];
-    let s = b[4];
-    let x = b[5];
-    let d = b[6];
-    let y = b[7];
-    if kind == 1 {
-        return short_code(r, w, p, s, x, d, y, n);
+    let [
+        kind,
+        row,
+        length,
+        prefix,
+        source_mode,
+        source,
+        destination_mode,
+        destination,
+    ] = block;
+    let words = Words {
+        row,
+        length,
+        prefix,
+        source_mode,
+        source,
+        destination_mode,
+        destination,
+    };
+    match kind {
+        1 => words.short_in(),
+        2 if words.length_agrees(Wide::Three) => words.dyadic_in(Wide::Three),
+        2 if words.length_agrees(Wide::Five) => words.dyadic_in(Wide::Five),
+        3 => words.monadic_in(),
+        _ => None,
     }
-    if (kind == 2) & length_agrees(Wide::Three, w, p) {
-        return dyadic_code(Wide::Three, r, p, s, x, d, y, n);
-    }
-    if (kind == 2) & length_agrees(Wide::Five, w, p) {
-        return dyadic_code(Wide::Five, r, p, s, x, d, y, n);
-    }
-    if kind == 3 {
-        return monadic_code(r, w, p, s, x, d, y, n);
-    }
-    Encoded::NoCode
 }

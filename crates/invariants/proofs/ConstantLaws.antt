@@ -17,25 +17,18 @@ use Rattle.isa.specs.declared.Mode.TheVariants.{AbsoluteByte, AbsoluteUbyte, Abs
 use Rattle.isa.specs.declared.ModeEntry.{ModeEntry}
 use Rattle.isa.specs.declared.ModeEntry.TheVariants as mode
 use Rattle.isa.specs.declared.Operand.{Operand}
-use Rattle.isa.specs.declared.OperandFound.{OperandFound}
-use Rattle.isa.specs.declared.OperandFound.TheVariants as found
 use Rattle.isa.specs.declared.Wide.{Wide}
 use Rattle.isa.specs.declared.Wide.TheVariants.{Three, Five}
 use Rattle.isa.specs.declared.Rule.TheVariants.{OneRegister}
-use Rattle.isa.specs.declared.DyadicEntry.{DyadicEntry}
-use Rattle.isa.specs.declared.DyadicEntry.TheVariants as wide
+use Rattle.isa.specs.declared.Entry.TheVariants as place
 use Rattle.isa.specs.declared.MonadicRow.{MonadicRow}
 use Rattle.isa.specs.declared.MonadicRule.{MonadicRule}
-use Rattle.isa.specs.declared.MonadicModeEntry.{MonadicModeEntry}
-use Rattle.isa.specs.declared.MonadicModeEntry.TheVariants as place
-use Rattle.isa.specs.declared.MonadicEntry.{MonadicEntry}
-use Rattle.isa.specs.declared.MonadicEntry.TheVariants as single
 use Rattle.isa.specs.declared.Text.{Text}
-use Rattle.isa.specs.declared.Decoded.{Decoded}
-use Rattle.isa.specs.declared.Decoded.TheVariants.{Is, Illegal, Unimplemented, Truncated}
-use Rattle.isa.specs.Answers.{unimplemented_vector}
+use Rattle.isa.specs.declared.Undecoded.TheVariants.{Illegal, Unimplemented, Truncated}
+use Rattle.isa.specs.declared.MonadicMode.{MonadicMode}
+use Rattle.isa.specs.Answers.{unimplemented_vector, Decoded}
 use Rattle.isa.specs.Fields.{source_field, field_value}
-use Rattle.isa.specs.Tables.{short_of, dyadic_of, monadic_of, monadic_mode_of}
+use Rattle.isa.specs.Tables.{short_of, dyadic_of, monadic_of, monadic_mode_of, DyadicEntry, MonadicEntry}
 use Rattle.isa.specs.Legal.{legal_of, monadic_legal_of}
 use Rattle.isa.specs.Decode.{short_entry, short_answer, decode_short, extended, operand_found, mode_entry, dyadic_answer, both_found, decode_dyadic, monadic_found, monadic_answer, decode_monadic, joined, decode_three, decode_wide, cpu_prefix, decode_prefixed, decode_bare, decode_of}
 use Rattle.exec_spec.specs.Operands.{ModeKind, absolute, offset, indirect, constant, mode_kind}
@@ -43,12 +36,13 @@ use Rattle.exec_spec.specs.Execute.{normal, short_normal}
 use Rattle.invariants.proofs.TextLaws.{TextFits}
 use Rattle.invariants.proofs.OperandLaws.{AddressFits, OperandFits}
 use Rattle.invariants.proofs.ExecuteLaws.{NormalFits}
+use Rattle.std.specs.Prelude.{Option, Some, None, Ok, Err}
 
 abbrev pub AnswerFits : Decoded → Type 0
-AnswerFits (Is i n) = NormalFits (normal i)
-AnswerFits Illegal = Unit
-AnswerFits (Unimplemented v) = Unit
-AnswerFits Truncated = Unit
+AnswerFits (Ok (i, n)) = NormalFits (normal i)
+AnswerFits (Err Illegal) = Unit
+AnswerFits (Err (Unimplemented v)) = Unit
+AnswerFits (Err Truncated) = Unit
 
 -- ---- one parcel
 
@@ -145,9 +139,9 @@ five_fits offset x h = tt
 five_fits indirect x h = tt
 five_fits constant x h = tt
 
-abbrev FoundFits : Wide → OperandFound → Type 0
-FoundFits w (found.Is o) = OperandFits w o
-FoundFits w found.Nothing = Unit
+abbrev FoundFits : Wide → Option Operand → Type 0
+FoundFits w (Some o) = OperandFits w o
+FoundFits w None = Unit
 
 found_fits : (w : Wide) (e : ModeEntry) (x : ℕ) → FieldFits w x → FoundFits w (operand_found w e x)
 found_fits Three (mode.General m) x h = three_fits m x h
@@ -156,15 +150,15 @@ found_fits w mode.Register x h = tt
 found_fits w mode.Unlisted x h = tt
 
 dyadic_answer_law : (e : DyadicEntry) (w : Wide) (pre : Bool) (s d : Operand) → OperandFits w s → OperandFits w d → AnswerFits (dyadic_answer e w pre s d)
-dyadic_answer_law (wide.Row r u) w pre s d f g = either AnswerFits (legal_of u s d) _ Illegal (f, g) tt
-dyadic_answer_law wide.Unimplemented w pre s d f g = either AnswerFits (legal_of OneRegister s d) (Unimplemented unimplemented_vector) Illegal tt tt
-dyadic_answer_law wide.Unlisted w pre s d f g = tt
+dyadic_answer_law (place.Row r u) w pre s d f g = either AnswerFits (legal_of u s d) _ (Err Illegal) (f, g) tt
+dyadic_answer_law place.Unimplemented w pre s d f g = either AnswerFits (legal_of OneRegister s d) (Err (Unimplemented unimplemented_vector)) (Err Illegal) tt tt
+dyadic_answer_law place.Unlisted w pre s d f g = tt
 
-both_answer : (e : DyadicEntry) (w : Wide) (pre : Bool) (s d : OperandFound) → FoundFits w s → FoundFits w d → AnswerFits (both_found e w pre s d)
-both_answer e w pre (found.Is s) (found.Is d) f g = dyadic_answer_law e w pre s d f g
-both_answer e w pre (found.Is s) found.Nothing f g = tt
-both_answer e w pre found.Nothing (found.Is d) f g = tt
-both_answer e w pre found.Nothing found.Nothing f g = tt
+both_answer : (e : DyadicEntry) (w : Wide) (pre : Bool) (s d : Option Operand) → FoundFits w s → FoundFits w d → AnswerFits (both_found e w pre s d)
+both_answer e w pre (Some s) (Some d) f g = dyadic_answer_law e w pre s d f g
+both_answer e w pre (Some s) None f g = tt
+both_answer e w pre None (Some d) f g = tt
+both_answer e w pre None None f g = tt
 
 dyadic_fits : (w : Wide) (pre : Bool) (p x y : ℕ) → FieldFits w x → FieldFits w y → AnswerFits (decode_dyadic w pre p x y)
 unfolding decode_dyadic
@@ -175,14 +169,14 @@ dyadic_fits w pre p x y f g =
 
 -- ---- monadics
 
-monadic_found_law : (r : MonadicRow) (u : MonadicRule) (pre : Bool) (e : MonadicModeEntry) (v : ℕ) → v < 2 ^ 32 → AnswerFits (monadic_found r u pre e v)
-monadic_found_law r u pre (place.Is m) v h = either AnswerFits (monadic_legal_of u m v) _ Illegal h tt
-monadic_found_law r u pre place.Unlisted v h = tt
+monadic_found_law : (r : MonadicRow) (u : MonadicRule) (pre : Bool) (e : Option MonadicMode) (v : ℕ) → v < 2 ^ 32 → AnswerFits (monadic_found r u pre e v)
+monadic_found_law r u pre (Some m) v h = either AnswerFits (monadic_legal_of u m v) _ (Err Illegal) h tt
+monadic_found_law r u pre None v h = tt
 
 monadic_answer_law : (e : MonadicEntry) (pre : Bool) (n v : ℕ) → v < 2 ^ 32 → AnswerFits (monadic_answer e pre n v)
-monadic_answer_law (single.Row r u) pre n v h = monadic_found_law r u pre (monadic_mode_of u n) v h
-monadic_answer_law single.Unimplemented pre n v h = either AnswerFits (ltb n 0xC) Illegal (Unimplemented unimplemented_vector) tt tt
-monadic_answer_law single.Unlisted pre n v h = tt
+monadic_answer_law (place.Row r u) pre n v h = monadic_found_law r u pre (monadic_mode_of u n) v h
+monadic_answer_law place.Unimplemented pre n v h = either AnswerFits (ltb n 0xC) (Err Illegal) (Err (Unimplemented unimplemented_vector)) tt tt
+monadic_answer_law place.Unlisted pre n v h = tt
 
 -- ---- the length
 
@@ -198,17 +192,17 @@ three pre p a b f g =
 wide_fits : (pre : Bool) (n p a b c d : ℕ) → a < 2 ^ 16 → b < 2 ^ 16 → c < 2 ^ 16 → d < 2 ^ 16 → AnswerFits (decode_wide pre n p a b c d)
 unfolding decode_wide
 wide_fits pre n p a b c d fa fb fc fd =
-    either AnswerFits (ltb p 0xC000) (cond (ltb n 2) Truncated (decode_three pre p a b))
-    (cond (ltb n 4) Truncated (decode_dyadic Five pre p (joined a b) (joined c d)))
-    (either AnswerFits (ltb n 2) Truncated (decode_three pre p a b) tt (three pre p a b fa fb))
-    (either AnswerFits (ltb n 4) Truncated (decode_dyadic Five pre p (joined a b) (joined c d)) tt
+    either AnswerFits (ltb p 0xC000) (cond (ltb n 2) (Err Truncated) (decode_three pre p a b))
+    (cond (ltb n 4) (Err Truncated) (decode_dyadic Five pre p (joined a b) (joined c d)))
+    (either AnswerFits (ltb n 2) (Err Truncated) (decode_three pre p a b) tt (three pre p a b fa fb))
+    (either AnswerFits (ltb n 4) (Err Truncated) (decode_dyadic Five pre p (joined a b) (joined c d)) tt
     (dyadic_fits Five pre p (joined a b) (joined c d) (joined_value a b fa fb) (joined_value c d fc fd)))
 
 prefixed_fits : (t : Text) → TextFits t → AnswerFits (decode_prefixed t)
 unfolding decode_prefixed
 prefixed_fits t f =
-    either AnswerFits (ltb t.count 2) Truncated (cond (ltb t.p1 0x8000) Illegal after) tt
-    (either AnswerFits (ltb t.p1 0x8000) Illegal after tt (wide_fits true (t.count - 2) t.p1 t.p2 t.p3 t.p4 t.p5 f.p2 f.p3 f.p4 f.p5))
+    either AnswerFits (ltb t.count 2) (Err Truncated) (cond (ltb t.p1 0x8000) (Err Illegal) after) tt
+    (either AnswerFits (ltb t.p1 0x8000) (Err Illegal) after tt (wide_fits true (t.count - 2) t.p1 t.p2 t.p3 t.p4 t.p5 f.p2 f.p3 f.p4 f.p5))
   where
     after : Decoded
     after = decode_wide true (t.count - 2) t.p1 t.p2 t.p3 t.p4 t.p5
@@ -223,5 +217,5 @@ bare_fits t f =
 pub decode_fits : (t : Text) → TextFits t → AnswerFits (decode_of t)
 unfolding decode_of
 decode_fits t f =
-    either AnswerFits (ltb t.count 1) Truncated (cond (eqb t.p0 cpu_prefix) (decode_prefixed t) (decode_bare t)) tt
+    either AnswerFits (ltb t.count 1) (Err Truncated) (cond (eqb t.p0 cpu_prefix) (decode_prefixed t) (decode_bare t)) tt
     (either AnswerFits (eqb t.p0 cpu_prefix) (decode_prefixed t) (decode_bare t) (prefixed_fits t f) (bare_fits t f))

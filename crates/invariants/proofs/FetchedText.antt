@@ -4,8 +4,7 @@ use Prim.Native.Nat.{ℕ}
 use mathlib.Core.Path.{◌≡◌, subst, sym, ◌∙◌}
 use native.Mathlib.Omega.{arith}
 use Rattle.isa.specs.declared.Text.{Text}
-use Rattle.isa.specs.declared.Decoded.{Decoded}
-use Rattle.isa.specs.declared.Decoded.TheVariants.{Is, Illegal, Unimplemented, Truncated}
+use Rattle.isa.specs.declared.Undecoded.TheVariants.{Illegal, Unimplemented, Truncated}
 use Rattle.isa.specs.Decode.{decode_of}
 use Rattle.isa.specs.Carried.{Carried}
 use Rattle.isa.proofs.Carried.{carried_length}
@@ -15,12 +14,14 @@ use Rattle.invariants.specs.FetchedText.{AsCarried, FetchedText}
 use Rattle.invariants.proofs.RuleLaws.{AnswersAllowed, any_answer, ResultsAllowed}
 use Rattle.invariants.proofs.TextLaws.{TextFits, fetch_text_law}
 use Rattle.invariants.proofs.CountLaws.{anything_goes}
+use Rattle.std.specs.Prelude.{Ok, Err}
+use Rattle.isa.specs.Answers.{Decoded}
 
 as_carried : (t : Text) (k : ℕ) (a : Decoded) → t.count ≡ k → Carried k t.count a → AsCarried t a
-as_carried t k (Is i n) e h = e ∙ sym h.1
-as_carried t k Illegal e h = tt
-as_carried t k (Unimplemented v) e h = tt
-as_carried t k Truncated e h = absurd (omega (arith, e, h))
+as_carried t k (Ok (i, n)) e h = e ∙ sym h.1
+as_carried t k (Err Illegal) e h = tt
+as_carried t k (Err (Unimplemented v)) e h = tt
+as_carried t k (Err Truncated) e h = absurd (omega (arith, e, h))
 
 pub fetched_text : FetchedText
 fetched_text W h c w t e =

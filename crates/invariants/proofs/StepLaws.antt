@@ -8,8 +8,7 @@ use lib.Dec.{T, eqb, lit<}
 use Rattle.word.specs.Fields.{bit_of}
 use Rattle.word.specs.Lists.{contains}
 use Rattle.word.specs.Sums.{plus_of}
-use Rattle.isa.specs.declared.Decoded.{Decoded}
-use Rattle.isa.specs.declared.Decoded.TheVariants.{Is, Illegal, Unimplemented, Truncated}
+use Rattle.isa.specs.declared.Undecoded.TheVariants.{Illegal, Unimplemented, Truncated}
 use Rattle.isa.specs.Decode.{decode_of}
 use Rattle.access_spec.specs.Program.{Program, ret, after}
 use Rattle.machine.specs.Registers.{config, psw, trace_due, timer1_due, timer2_due, nmi_taken}
@@ -31,6 +30,8 @@ use Rattle.invariants.proofs.TextLaws.{fetch_text_law}
 use Rattle.invariants.proofs.FrameLaws.{interrupt_part, exception_part, unimplemented_part, reset_holds}
 use Rattle.invariants.proofs.ExecuteLaws.{NormalFits, execute_part}
 use Rattle.invariants.proofs.ConstantLaws.{AnswerFits, decode_fits}
+use Rattle.std.specs.Prelude.{Ok, Err}
+use Rattle.isa.specs.Answers.{Decoded}
 
 -- ---- results
 
@@ -107,10 +108,10 @@ module _ (k : Rules) where
   fetch_part c h = bind {b = 0} (fetch_text_law k c h) λ t f. record { within = go (decode_of t) (decode_fits t f) }
     where
       go : (a : Decoded) → AnswerFits a → Within k.Asks (AnswersAllowed k) (ResultsAllowed k DispatchFits) 0 (ret (dispatch c a))
-      go (Is i n) f = f
-      go Illegal f = (k.raises illegal_instruction refl, h)
-      go (Unimplemented v) f = tt
-      go Truncated f = (k.raises illegal_instruction refl, h)
+      go (Ok (i, n)) f = f
+      go (Err Illegal) f = (k.raises illegal_instruction refl, h)
+      go (Err (Unimplemented v)) f = tt
+      go (Err Truncated) f = (k.raises illegal_instruction refl, h)
 
   act_part : (c : Cpu) (m : Dispatch) → k.Free → k.Holds c → DispatchFits m → Part k (ActedHolds k) 69 (act c m)
   unfolding act

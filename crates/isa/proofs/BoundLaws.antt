@@ -2,8 +2,6 @@
 -- Assumes nothing.
 use Prim.Native.Nat.{◌<◌}
 use lib.Dec.{lit<}
-use Rattle.isa.specs.declared.ShortRow.{ShortRow}
-use Rattle.isa.specs.declared.ShortRow.TheVariants as short
 use Rattle.isa.specs.declared.DyadicRow.{DyadicRow}
 use Rattle.isa.specs.declared.DyadicRow.TheVariants as dyadic
 use Rattle.isa.specs.declared.MonadicRow.{MonadicRow}
@@ -15,48 +13,7 @@ use Rattle.isa.specs.declared.Operand.TheVariants.{General, Register}
 use Rattle.isa.specs.declared.MonadicMode.{MonadicMode}
 use Rattle.isa.specs.declared.MonadicMode.TheVariants as single
 use Rattle.isa.specs.Encode.{mode_code, operand_code, monadic_code}
-use Rattle.isa.specs.Encodings.{short_listed, dyadic_listed, monadic_listed}
-
-pub base_lt : (r : ShortRow) → (short_listed r).base < 32768
-base_lt short.Kcall = lit< tt
-base_lt short.Call = lit< tt
-base_lt short.Jmp = lit< tt
-base_lt short.Jmpfn = lit< tt
-base_lt short.Jmpfy = lit< tt
-base_lt short.Jmptn = lit< tt
-base_lt short.Jmpty = lit< tt
-base_lt short.MovWaiStk = lit< tt
-base_lt short.Add3WaiStk = lit< tt
-base_lt short.And3ImmStk = lit< tt
-base_lt short.AndStkStk = lit< tt
-base_lt short.CmpeqImmStk = lit< tt
-base_lt short.CmpgtStkStk = lit< tt
-base_lt short.CmpgtImmStk = lit< tt
-base_lt short.CmpeqStkStk = lit< tt
-base_lt short.AddImmStk = lit< tt
-base_lt short.Add3ImmStk = lit< tt
-base_lt short.AddStkStk = lit< tt
-base_lt short.Add3StkStk = lit< tt
-base_lt short.MovStkStk = lit< tt
-base_lt short.MovIstkStk = lit< tt
-base_lt short.MovStkIstk = lit< tt
-base_lt short.MovIstkIstk = lit< tt
-base_lt short.MovImmStk = lit< tt
-base_lt short.MovaStkStk = lit< tt
-base_lt short.Shl3UimmStk = lit< tt
-base_lt short.Shr3UimmStk = lit< tt
-base_lt short.Enter = lit< tt
-base_lt short.Catch = lit< tt
-base_lt short.Return = lit< tt
-base_lt short.Popn = lit< tt
-base_lt short.Kret = lit< tt
-base_lt short.Nop = lit< tt
-base_lt short.Flushi = lit< tt
-base_lt short.Flushp = lit< tt
-base_lt short.Cret = lit< tt
-base_lt short.Testv = lit< tt
-base_lt short.Testc = lit< tt
-base_lt short.Clre = lit< tt
+use Rattle.isa.specs.Encodings.{dyadic_listed, monadic_listed}
 
 pub opcode_lt : (r : DyadicRow) → (dyadic_listed r).opcode < 64
 opcode_lt dyadic.Ori = lit< tt

@@ -13,27 +13,22 @@ use Rattle.isa.specs.declared.ShortEntry.TheVariants as short
 use Rattle.isa.specs.declared.Wide.{Wide}
 use Rattle.isa.specs.declared.Wide.TheVariants.{Three, Five}
 use Rattle.isa.specs.declared.Operand.{Operand}
-use Rattle.isa.specs.declared.OperandFound.{OperandFound}
-use Rattle.isa.specs.declared.OperandFound.TheVariants as found
 use Rattle.isa.specs.declared.Rule.TheVariants.{OneRegister}
-use Rattle.isa.specs.declared.DyadicEntry.{DyadicEntry}
-use Rattle.isa.specs.declared.DyadicEntry.TheVariants as wide
+use Rattle.isa.specs.declared.Entry.TheVariants as place
 use Rattle.isa.specs.declared.MonadicRow.{MonadicRow}
 use Rattle.isa.specs.declared.MonadicRule.{MonadicRule}
-use Rattle.isa.specs.declared.MonadicModeEntry.{MonadicModeEntry}
-use Rattle.isa.specs.declared.MonadicModeEntry.TheVariants as place
-use Rattle.isa.specs.declared.MonadicEntry.{MonadicEntry}
-use Rattle.isa.specs.declared.MonadicEntry.TheVariants as single
 use Rattle.isa.specs.declared.Instruction.{Instruction}
 use Rattle.isa.specs.declared.Text.{Text}
-use Rattle.isa.specs.declared.Decoded.TheVariants.{Is, Illegal, Unimplemented}
+use Rattle.isa.specs.declared.Undecoded.TheVariants.{Illegal, Unimplemented}
+use Rattle.isa.specs.declared.MonadicMode.{MonadicMode}
 use Rattle.isa.specs.Lengths.{short_length, wide_length, prefix_length, form_of, after_of, following, length_of}
 use Rattle.isa.specs.Answers.{unimplemented_vector}
 use Rattle.isa.specs.Carried.{Carried, CarriedLength, called_for}
-use Rattle.isa.specs.Tables.{short_of, dyadic_of, monadic_of, monadic_mode_of}
+use Rattle.isa.specs.Tables.{short_of, dyadic_of, monadic_of, monadic_mode_of, DyadicEntry, MonadicEntry}
 use Rattle.isa.specs.Legal.{legal_of, monadic_legal_of}
 use Rattle.isa.specs.Decode.{short_entry, short_answer, decode_short, mode_entry, operand_found, dyadic_answer, both_found, decode_dyadic, monadic_found, monadic_answer, decode_monadic, joined, decode_three, decode_wide, cpu_prefix, decode_prefixed, decode_bare, decode_of}
 use Rattle.isa.proofs.LengthLaws.{wide_positive}
+use Rattle.std.specs.Prelude.{Option, Some, None, Ok, Err}
 
 -- c parcels are there, which is enough in the three parts
 module _ (c : ℕ) where
@@ -57,31 +52,31 @@ module _ (c : ℕ) where
       go (dyadic_of (p / 256 % 64)) (operand_found w (mode_entry pre (p / 16 % 16)) x) (operand_found w (mode_entry pre (p % 16)) y)
     where
       both : (e : DyadicEntry) (s d : Operand) → Carried (wide_length w + prefix_length pre) c (dyadic_answer e w pre s d)
-      both (wide.Row r u) s d = either (Carried (wide_length w + prefix_length pre) c) (legal_of u s d) _ Illegal (refl, refl, h) h
-      both wide.Unimplemented s d =
-          either (Carried (wide_length w + prefix_length pre) c) (legal_of OneRegister s d) (Unimplemented unimplemented_vector) Illegal (inl refl, h) h
-      both wide.Unlisted s d = h
+      both (place.Row r u) s d = either (Carried (wide_length w + prefix_length pre) c) (legal_of u s d) _ (Err Illegal) (refl, refl, h) h
+      both place.Unimplemented s d =
+          either (Carried (wide_length w + prefix_length pre) c) (legal_of OneRegister s d) (Err (Unimplemented unimplemented_vector)) (Err Illegal) (inl refl, h) h
+      both place.Unlisted s d = h
 
-      go : (e : DyadicEntry) (f g : OperandFound) → Carried (wide_length w + prefix_length pre) c (both_found e w pre f g)
-      go e (found.Is s) (found.Is d) = both e s d
-      go e (found.Is s) found.Nothing = h
-      go e found.Nothing (found.Is d) = h
-      go e found.Nothing found.Nothing = h
+      go : (e : DyadicEntry) (f g : Option Operand) → Carried (wide_length w + prefix_length pre) c (both_found e w pre f g)
+      go e (Some s) (Some d) = both e s d
+      go e (Some s) None = h
+      go e None (Some d) = h
+      go e None None = h
 
   monadic_carried : (pre : Bool) (p v : ℕ) → wide_length Three + prefix_length pre ≤ c
       → Carried (wide_length Three + prefix_length pre) c (decode_monadic pre p v)
   unfolding decode_monadic
   monadic_carried pre p v h = go (monadic_of (p % 16))
     where
-      mode : (r : MonadicRow) (u : MonadicRule) (m : MonadicModeEntry) → Carried (wide_length Three + prefix_length pre) c (monadic_found r u pre m v)
-      mode r u (place.Is m) = either (Carried (wide_length Three + prefix_length pre) c) (monadic_legal_of u m v) _ Illegal (refl, refl, h) h
-      mode r u place.Unlisted = h
+      mode : (r : MonadicRow) (u : MonadicRule) (m : Option MonadicMode) → Carried (wide_length Three + prefix_length pre) c (monadic_found r u pre m v)
+      mode r u (Some m) = either (Carried (wide_length Three + prefix_length pre) c) (monadic_legal_of u m v) _ (Err Illegal) (refl, refl, h) h
+      mode r u None = h
 
       go : (e : MonadicEntry) → Carried (wide_length Three + prefix_length pre) c (monadic_answer e pre (p / 16 % 16) v)
-      go (single.Row r u) = mode r u (monadic_mode_of u (p / 16 % 16))
-      go single.Unimplemented =
-          either (Carried (wide_length Three + prefix_length pre) c) (ltb (p / 16 % 16) 0xC) Illegal (Unimplemented unimplemented_vector) h (inl refl, h)
-      go single.Unlisted = h
+      go (place.Row r u) = mode r u (monadic_mode_of u (p / 16 % 16))
+      go place.Unimplemented =
+          either (Carried (wide_length Three + prefix_length pre) c) (ltb (p / 16 % 16) 0xC) (Err Illegal) (Err (Unimplemented unimplemented_vector)) h (inl refl, h)
+      go place.Unlisted = h
 
 -- of a parcel whose top bit is 1, n parcels follow
 wide_carried : (pre : Bool) (n p a b c d m : ℕ) → m ≡ n + 1 + prefix_length pre
@@ -152,9 +147,9 @@ carried_length t =
     (λ f. rw f (bare_carried t (ltb-false t.count 1 e)))))
 
 -- the length of an instruction that was decoded is its form's and its prefix's
-pub own_length : (t : Text) (i : Instruction) (n : ℕ) → decode_of t ≡ Is i n → n ≡ length_of i
+pub own_length : (t : Text) (i : Instruction) (n : ℕ) → decode_of t ≡ Ok (i, n) → n ≡ length_of i
 own_length t i n e = (subst (Carried (called_for t) t.count) e (carried_length t)).0
 
 -- so that the offset can be added to another number
-pub vector_fits : (t : Text) (v : ℕ) → decode_of t ≡ Unimplemented v → v < 16
+pub vector_fits : (t : Text) (v : ℕ) → decode_of t ≡ Err (Unimplemented v) → v < 16
 vector_fits t v e = ⊎_elim (λ h. omega (arith, h)) (λ h. omega (arith, h)) (subst (Carried (called_for t) t.count) e (carried_length t)).0

@@ -1,12 +1,10 @@
 -- Document 01's numbers and values for what the decoder and the encoder answer: "When an answer is an enum, the promises use a
 -- definition that gives this paper's number and values for each case of the enum".
-use Rattle.std.specs.Prelude.{ℕ}
+use Rattle.std.specs.Prelude.{ℕ, Option, Some, None, Result, Ok, Err}
 use Rattle.isa.specs.declared.Instruction.{Instruction}
 use Rattle.isa.specs.declared.Text.{Text}
-use Rattle.isa.specs.declared.Decoded.{Decoded}
-use Rattle.isa.specs.declared.Decoded.TheVariants.{Is, Illegal, Unimplemented, Truncated}
-use Rattle.isa.specs.declared.Encoded.{Encoded}
-use Rattle.isa.specs.declared.Encoded.TheVariants.{Parcels, NoCode}
+use Rattle.isa.specs.declared.Undecoded.{Undecoded}
+use Rattle.isa.specs.declared.Undecoded.TheVariants.{Illegal, Unimplemented, Truncated}
 use Rattle.isa.specs.Lengths.{length_of}
 
 -- "Every opcode, subcode or mode not in the encodings lists is illegal (0x3)": the exception
@@ -34,6 +32,9 @@ niladic_trap_vector = 8
 
 -- ---- the decoder's: an instruction with its length in parcels; an exception; an event with its vector's offset; a refusal
 
+abbrev pub Decoded : Type 0
+Decoded = Result (Instruction × ℕ) Undecoded
+
 pub data DecodedNumbers : Type 0 where
   decoded_to : Instruction → ℕ → DecodedNumbers
   decoded_exception : ℕ → DecodedNumbers
@@ -41,21 +42,24 @@ pub data DecodedNumbers : Type 0 where
   decoded_refusal : ℕ → DecodedNumbers
 
 abbrev pub decoded_numbers : Decoded → DecodedNumbers
-decoded_numbers (Is i n) = decoded_to i n
-decoded_numbers Illegal = decoded_exception illegal_number
-decoded_numbers (Unimplemented v) = decoded_event unimplemented_code v
-decoded_numbers Truncated = decoded_refusal truncated_text
+decoded_numbers (Ok (i, n)) = decoded_to i n
+decoded_numbers (Err Illegal) = decoded_exception illegal_number
+decoded_numbers (Err (Unimplemented v)) = decoded_event unimplemented_code v
+decoded_numbers (Err Truncated) = decoded_refusal truncated_text
 
 -- an instruction carries its length, what is none carries none
 abbrev pub with_length : Instruction → Decoded
-with_length i = Is i (length_of i)
+with_length i = Ok (i, length_of i)
 
 -- ---- the encoder's: parcels, as many as the text counts; a refusal
+
+abbrev pub Encoded : Type 0
+Encoded = Option Text
 
 pub data EncodedNumbers : Type 0 where
   encoded_to : Text → EncodedNumbers
   encoded_refusal : ℕ → EncodedNumbers
 
 abbrev pub encoded_numbers : Encoded → EncodedNumbers
-encoded_numbers (Parcels t) = encoded_to t
-encoded_numbers NoCode = encoded_refusal no_encoding
+encoded_numbers (Some t) = encoded_to t
+encoded_numbers None = encoded_refusal no_encoding

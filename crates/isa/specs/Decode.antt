@@ -1,5 +1,5 @@
 -- The decoder: what one to six parcels say (sections 1.6 and 1.11.4).
-use Rattle.std.specs.Prelude.{ℕ, ◌+◌, ◌*◌, ◌-◌, ◌/◌, ◌%◌, Bool, true, false, cond, List, length, get_or, ltb, eqb}
+use Rattle.std.specs.Prelude.{ℕ, ◌+◌, ◌*◌, ◌-◌, ◌/◌, ◌%◌, Bool, true, false, cond, List, length, get_or, ltb, eqb, Option, Some, None, Err}
 use Rattle.isa.specs.declared.ShortRow.{ShortRow}
 use Rattle.isa.specs.declared.FieldMode.{FieldMode}
 use Rattle.isa.specs.declared.ShortEntry.{ShortEntry}
@@ -11,28 +11,21 @@ use Rattle.isa.specs.declared.ModeEntry.{ModeEntry}
 use Rattle.isa.specs.declared.ModeEntry.TheVariants as mode
 use Rattle.isa.specs.declared.Operand.{Operand}
 use Rattle.isa.specs.declared.Operand.TheVariants as operand
-use Rattle.isa.specs.declared.OperandFound.{OperandFound}
-use Rattle.isa.specs.declared.OperandFound.TheVariants as found
 use Rattle.isa.specs.declared.Wide.{Wide}
 use Rattle.isa.specs.declared.Wide.TheVariants.{Three, Five}
 use Rattle.isa.specs.declared.Rule.TheVariants.{OneRegister}
-use Rattle.isa.specs.declared.DyadicEntry.{DyadicEntry}
-use Rattle.isa.specs.declared.DyadicEntry.TheVariants as wide
+use Rattle.isa.specs.declared.Entry.TheVariants as place
 use Rattle.isa.specs.declared.MonadicRow.{MonadicRow}
 use Rattle.isa.specs.declared.MonadicRule.{MonadicRule}
-use Rattle.isa.specs.declared.MonadicModeEntry.{MonadicModeEntry}
-use Rattle.isa.specs.declared.MonadicModeEntry.TheVariants as place
-use Rattle.isa.specs.declared.MonadicEntry.{MonadicEntry}
-use Rattle.isa.specs.declared.MonadicEntry.TheVariants as single
 use Rattle.isa.specs.declared.Instruction.TheVariants as instruction
 use Rattle.isa.specs.declared.Text.{Text}
-use Rattle.isa.specs.declared.Decoded.{Decoded}
-use Rattle.isa.specs.declared.Decoded.TheVariants.{Illegal, Unimplemented, Truncated}
+use Rattle.isa.specs.declared.Undecoded.TheVariants.{Illegal, Unimplemented, Truncated}
+use Rattle.isa.specs.declared.MonadicMode.{MonadicMode}
 use Rattle.word.specs.Widths.{sign_extend_of}
 use Rattle.isa.specs.Lengths.{wide_length}
-use Rattle.isa.specs.Answers.{unimplemented_vector, niladic_trap_vector, with_length}
+use Rattle.isa.specs.Answers.{unimplemented_vector, niladic_trap_vector, with_length, Decoded}
 use Rattle.isa.specs.Fields.{short_opcode, short_operands, source_field, destination_field, field_value}
-use Rattle.isa.specs.Tables.{short_of, stack_of, niladic_of, dyadic_of, monadic_of, general_of, prefixed_of, monadic_mode_of}
+use Rattle.isa.specs.Tables.{short_of, stack_of, niladic_of, dyadic_of, monadic_of, general_of, prefixed_of, monadic_mode_of, DyadicEntry, MonadicEntry}
 use Rattle.isa.specs.Legal.{legal_of, monadic_legal_of}
 
 -- ---- one parcel: a 0 bit, a five-bit opcode, ten operand bits
@@ -54,12 +47,12 @@ short_instruction r s d p =
 -- a prefix is no instruction by itself
 abbrev pub short_answer : ShortEntry → ℕ → Decoded
 short_answer (short.Row r s d) p = with_length (instruction.Short (short_instruction r s d p))
-short_answer short.Stack p = Illegal
-short_answer short.Niladic p = Illegal
-short_answer short.Prefix p = Illegal
-short_answer short.Unimplemented p = Unimplemented unimplemented_vector
-short_answer short.Trap p = Unimplemented niladic_trap_vector
-short_answer short.Unlisted p = Illegal
+short_answer short.Stack p = Err Illegal
+short_answer short.Niladic p = Err Illegal
+short_answer short.Prefix p = Err Illegal
+short_answer short.Unimplemented p = Err (Unimplemented unimplemented_vector)
+short_answer short.Trap p = Err (Unimplemented niladic_trap_vector)
+short_answer short.Unlisted p = Err Illegal
 
 unfoldable pub decode_short : ℕ → Decoded
 decode_short p = short_answer (short_entry (short_of (short_opcode p)) p) p
@@ -91,10 +84,10 @@ operand_value Three m x = extended m x
 operand_value Five m x = x
 
 -- 1.7: of a register's number only bits 3:0 count
-abbrev pub operand_found : Wide → ModeEntry → ℕ → OperandFound
-operand_found w (mode.General m) x = found.Is (operand.General m (operand_value w m x))
-operand_found w mode.Register x = found.Is (operand.Register (x % 16))
-operand_found w mode.Unlisted x = found.Nothing
+abbrev pub operand_found : Wide → ModeEntry → ℕ → Option Operand
+operand_found w (mode.General m) x = Some (operand.General m (operand_value w m x))
+operand_found w mode.Register x = Some (operand.Register (x % 16))
+operand_found w mode.Unlisted x = None
 
 abbrev pub mode_entry : Bool → ℕ → ModeEntry
 mode_entry true k = prefixed_of k
@@ -102,18 +95,18 @@ mode_entry false k = general_of k
 
 -- 1.11.4: an unimplemented dyadic after a prefix is illegal with an illegal mode or combination of modes
 abbrev pub dyadic_answer : DyadicEntry → Wide → Bool → Operand → Operand → Decoded
-dyadic_answer (wide.Row r u) w pre s d =
+dyadic_answer (place.Row r u) w pre s d =
     cond (legal_of u s d)
     (with_length (instruction.Dyadic (record { row = r; wide = w; prefix = pre; source = s; destination = d })))
-    Illegal
-dyadic_answer wide.Unimplemented w pre s d = cond (legal_of OneRegister s d) (Unimplemented unimplemented_vector) Illegal
-dyadic_answer wide.Unlisted w pre s d = Illegal
+    (Err Illegal)
+dyadic_answer place.Unimplemented w pre s d = cond (legal_of OneRegister s d) (Err (Unimplemented unimplemented_vector)) (Err Illegal)
+dyadic_answer place.Unlisted w pre s d = Err Illegal
 
-abbrev pub both_found : DyadicEntry → Wide → Bool → OperandFound → OperandFound → Decoded
-both_found e w pre (found.Is s) (found.Is d) = dyadic_answer e w pre s d
-both_found e w pre (found.Is s) found.Nothing = Illegal
-both_found e w pre found.Nothing (found.Is d) = Illegal
-both_found e w pre found.Nothing found.Nothing = Illegal
+abbrev pub both_found : DyadicEntry → Wide → Bool → Option Operand → Option Operand → Decoded
+both_found e w pre (Some s) (Some d) = dyadic_answer e w pre s d
+both_found e w pre (Some s) None = Err Illegal
+both_found e w pre None (Some d) = Err Illegal
+both_found e w pre None None = Err Illegal
 
 -- the opcode in bits 13:8, the source's mode in 7:4, the destination's in 3:0; x and y are the operand fields
 unfoldable pub decode_dyadic : Wide → Bool → ℕ → ℕ → ℕ → Decoded
@@ -124,18 +117,18 @@ decode_dyadic w pre p x y =
 
 -- ---- monadics of three parcels: opcode 0, the mode in bits 7:4, the subcode in 3:0, an operand of 32 bits
 
-abbrev pub monadic_found : MonadicRow → MonadicRule → Bool → MonadicModeEntry → ℕ → Decoded
-monadic_found r u pre (place.Is m) v =
+abbrev pub monadic_found : MonadicRow → MonadicRule → Bool → Option MonadicMode → ℕ → Decoded
+monadic_found r u pre (Some m) v =
     cond (monadic_legal_of u m v)
     (with_length (instruction.Monadic (record { row = r; prefix = pre; mode = m; value = v })))
-    Illegal
-monadic_found r u pre place.Unlisted v = Illegal
+    (Err Illegal)
+monadic_found r u pre None v = Err Illegal
 
 -- 1.11.4: "An unimplemented monadic instruction is illegal if it has a nonword addressing mode (<0xC)"
 abbrev pub monadic_answer : MonadicEntry → Bool → ℕ → ℕ → Decoded
-monadic_answer (single.Row r u) pre k v = monadic_found r u pre (monadic_mode_of u k) v
-monadic_answer single.Unimplemented pre k v = cond (ltb k 0xC) Illegal (Unimplemented unimplemented_vector)
-monadic_answer single.Unlisted pre k v = Illegal
+monadic_answer (place.Row r u) pre k v = monadic_found r u pre (monadic_mode_of u k) v
+monadic_answer place.Unimplemented pre k v = cond (ltb k 0xC) (Err Illegal) (Err (Unimplemented unimplemented_vector))
+monadic_answer place.Unlisted pre k v = Err Illegal
 
 unfoldable pub decode_monadic : Bool → ℕ → ℕ → Decoded
 decode_monadic pre p v = monadic_answer (monadic_of (p % 16)) pre (p / 16 % 16) v
@@ -153,8 +146,8 @@ decode_three pre p a b = cond (eqb (p / 256 % 64) 0) (decode_monadic pre p (join
 unfoldable pub decode_wide : Bool → ℕ → ℕ → ℕ → ℕ → ℕ → ℕ → Decoded
 decode_wide pre n p a b c d =
     cond (ltb p 0xC000)
-    (cond (ltb n (wide_length Three - 1)) Truncated (decode_three pre p a b))
-    (cond (ltb n (wide_length Five - 1)) Truncated (decode_dyadic Five pre p (joined a b) (joined c d)))
+    (cond (ltb n (wide_length Three - 1)) (Err Truncated) (decode_three pre p a b))
+    (cond (ltb n (wide_length Five - 1)) (Err Truncated) (decode_dyadic Five pre p (joined a b) (joined c d)))
 
 -- the CPU prefix: one parcel, opcode 0xB, subcode 0
 abbrev pub cpu_prefix : ℕ
@@ -163,8 +156,8 @@ cpu_prefix = 0x2C00
 -- document 01: "a CPU prefix before a one-parcel instruction, or before another prefix, is illegal"
 unfoldable pub decode_prefixed : Text → Decoded
 decode_prefixed t =
-    cond (ltb t.count 2) Truncated
-    (cond (ltb t.p1 0x8000) Illegal (decode_wide true (t.count - 2) t.p1 t.p2 t.p3 t.p4 t.p5))
+    cond (ltb t.count 2) (Err Truncated)
+    (cond (ltb t.p1 0x8000) (Err Illegal) (decode_wide true (t.count - 2) t.p1 t.p2 t.p3 t.p4 t.p5))
 
 unfoldable pub decode_bare : Text → Decoded
 decode_bare t =
@@ -173,7 +166,7 @@ decode_bare t =
 
 unfoldable pub decode_of : Text → Decoded
 decode_of t =
-    cond (ltb t.count 1) Truncated
+    cond (ltb t.count 1) (Err Truncated)
     (cond (eqb t.p0 cpu_prefix) (decode_prefixed t) (decode_bare t))
 
 -- the parcels of a list: its length, and the first six, as far as they go

@@ -1,5 +1,5 @@
 -- The encoder: the parcels of an instruction at a named length, or refusal 5 (section 3.3, with the bit places of section 1.6).
-use Rattle.std.specs.Prelude.{ℕ, ◌+◌, ◌*◌, ◌/◌, ◌%◌, Bool, true, false, cond, not, ◌&&◌, ◌||◌, ltb, leb, eqb}
+use Rattle.std.specs.Prelude.{ℕ, ◌+◌, ◌*◌, ◌/◌, ◌%◌, Bool, true, false, cond, not, ◌&&◌, ◌||◌, ltb, leb, eqb, Some, None}
 use Rattle.isa.specs.declared.FieldMode.{FieldMode}
 use Rattle.isa.specs.declared.FieldMode.TheVariants.{Absent, Imm5, Uimm5, Wai5, Stk5, Istk5, Imm10, Pcrel10, Stk8, Fill8}
 use Rattle.isa.specs.declared.ShortListed.{ShortListed}
@@ -21,17 +21,16 @@ use Rattle.isa.specs.declared.MonadicInstruction.{MonadicInstruction}
 use Rattle.isa.specs.declared.Instruction.{Instruction}
 use Rattle.isa.specs.declared.Instruction.TheVariants as instruction
 use Rattle.isa.specs.declared.Text.{Text}
-use Rattle.isa.specs.declared.Encoded.{Encoded}
-use Rattle.isa.specs.declared.Encoded.TheVariants.{Parcels, NoCode}
 use Rattle.isa.specs.Lengths.{length_of}
 use Rattle.word.specs.Widths.{sign_extend_of}
 use Rattle.isa.specs.Fields.{field_value}
 use Rattle.isa.specs.Legal.{is_register}
 use Rattle.isa.specs.Encodings.{short_listed, dyadic_listed, monadic_listed}
+use Rattle.isa.specs.Answers.{Encoded}
 
 abbrev pub coded : Bool → Text → Encoded
-coded true t = Parcels t
-coded false t = NoCode
+coded true t = Some t
+coded false t = None
 
 abbrev pub text1 : ℕ → Text
 text1 p = record { count = 1; p0 = p; p1 = 0; p2 = 0; p3 = 0; p4 = 0; p5 = 0 }
@@ -220,4 +219,4 @@ encode_any (instruction.Monadic i) = encode_monadic i
 
 -- request (g): "A form, prefix and length that disagree are given number 5 too by the encoder"
 unfoldable pub encode_of : Instruction → ℕ → Encoded
-encode_of i n = cond (eqb n (length_of i)) (encode_any i) NoCode
+encode_of i n = cond (eqb n (length_of i)) (encode_any i) None

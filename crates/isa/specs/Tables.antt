@@ -1,24 +1,24 @@
 -- Tables 1-15 to 1-23: what the decoder finds at each opcode, subcode and mode number.
-use Rattle.std.specs.Prelude.{ℕ, ◌-◌, cond, List, [], ◌∷◌, get_or, ltb}
+use Rattle.std.specs.Prelude.{ℕ, ◌-◌, cond, List, [], ◌∷◌, get_or, ltb, Option, Some, None}
 use Rattle.isa.specs.declared.ShortRow.TheVariants as short
 use Rattle.isa.specs.declared.FieldMode.TheVariants.{Absent, Imm5, Uimm5, Wai5, Stk5, Istk5, Imm10, Pcrel10, Stk8, Fill8}
 use Rattle.isa.specs.declared.ShortEntry.{ShortEntry}
 use Rattle.isa.specs.declared.ShortEntry.TheVariants as entry
+use Rattle.isa.specs.declared.DyadicRow.{DyadicRow}
 use Rattle.isa.specs.declared.DyadicRow.TheVariants as dyadic
+use Rattle.isa.specs.declared.Rule.{Rule}
 use Rattle.isa.specs.declared.Rule.TheVariants.{OneRegister, AnyTwo, Address, Multiple}
-use Rattle.isa.specs.declared.DyadicEntry.{DyadicEntry}
-use Rattle.isa.specs.declared.DyadicEntry.TheVariants as wide
+use Rattle.isa.specs.declared.Entry.{Entry}
+use Rattle.isa.specs.declared.Entry.TheVariants as place
+use Rattle.isa.specs.declared.MonadicRow.{MonadicRow}
 use Rattle.isa.specs.declared.MonadicRow.TheVariants as monadic
 use Rattle.isa.specs.declared.MonadicRule.{MonadicRule}
 use Rattle.isa.specs.declared.MonadicRule.TheVariants as rule
-use Rattle.isa.specs.declared.MonadicEntry.{MonadicEntry}
-use Rattle.isa.specs.declared.MonadicEntry.TheVariants as single
 use Rattle.isa.specs.declared.Mode.TheVariants.{AbsoluteByte, AbsoluteUbyte, AbsoluteHalf, AbsoluteUhalf, StackByte, StackUbyte, StackHalf, StackUhalf, IndirectByte, IndirectUbyte, IndirectHalf, IndirectUhalf, AbsoluteWord, StackWord, IndirectWord, Immediate}
 use Rattle.isa.specs.declared.ModeEntry.{ModeEntry}
 use Rattle.isa.specs.declared.ModeEntry.TheVariants as mode
+use Rattle.isa.specs.declared.MonadicMode.{MonadicMode}
 use Rattle.isa.specs.declared.MonadicMode.TheVariants.{WordAbsolute, WordStack, WordIndirect, WordImmediate, FlowAbsoluteIndirect, FlowStackIndirect, FlowRelative, FlowAbsolute}
-use Rattle.isa.specs.declared.MonadicModeEntry.{MonadicModeEntry}
-use Rattle.isa.specs.declared.MonadicModeEntry.TheVariants as place
 
 -- Table 1-15, opcodes 0 to 31. Its letters: C imm5 (uimm5 for the shifts), W wai5, S stk5, I istk5
 abbrev pub short_table : List ShortEntry
@@ -91,101 +91,108 @@ niladic_table =
 abbrev pub niladic_of : ℕ → ShortEntry
 niladic_of k = get_or niladic_table k (cond (ltb k 0x200) entry.Unimplemented (cond (ltb k 0x400) entry.Trap entry.Unlisted))
 
+-- what a place of Tables 1-18 and 1-20 may have, and of Table 1-19
+abbrev pub DyadicEntry : Type 0
+DyadicEntry = Entry DyadicRow Rule
+
+abbrev pub MonadicEntry : Type 0
+MonadicEntry = Entry MonadicRow MonadicRule
+
 -- Tables 1-18 and 1-20, opcodes 0 to 63: they differ at 0 alone, which in three parcels is the monadics'
 abbrev pub dyadic_table : List DyadicEntry
 dyadic_table =
-    wide.Unimplemented
-    ∷ wide.Row dyadic.Ori OneRegister
-    ∷ wide.Row dyadic.Andi OneRegister
-    ∷ wide.Row dyadic.Addi OneRegister
-    ∷ wide.Row dyadic.Mova Address
-    ∷ wide.Row dyadic.Urem OneRegister
-    ∷ wide.Row dyadic.Mov AnyTwo
-    ∷ wide.Row dyadic.Dqm Multiple
-    ∷ wide.Unimplemented
-    ∷ wide.Unimplemented
-    ∷ wide.Unimplemented
-    ∷ wide.Unimplemented
-    ∷ wide.Row dyadic.Tadd OneRegister
-    ∷ wide.Row dyadic.Tsub OneRegister
-    ∷ wide.Unimplemented
-    ∷ wide.Unimplemented
-    ∷ wide.Unimplemented
-    ∷ wide.Unimplemented
-    ∷ wide.Unimplemented
-    ∷ wide.Unimplemented
-    ∷ wide.Unimplemented
-    ∷ wide.Unimplemented
-    ∷ wide.Unimplemented
-    ∷ wide.Unimplemented
-    ∷ wide.Unimplemented
-    ∷ wide.Unimplemented
-    ∷ wide.Unimplemented
-    ∷ wide.Unimplemented
-    ∷ wide.Unimplemented
-    ∷ wide.Row dyadic.Cmpgt OneRegister
-    ∷ wide.Row dyadic.Cmphi OneRegister
-    ∷ wide.Row dyadic.Cmpeq OneRegister
-    ∷ wide.Row dyadic.Sub OneRegister
-    ∷ wide.Row dyadic.Or OneRegister
-    ∷ wide.Row dyadic.And OneRegister
-    ∷ wide.Row dyadic.Add OneRegister
-    ∷ wide.Row dyadic.Xor OneRegister
-    ∷ wide.Row dyadic.Rem OneRegister
-    ∷ wide.Row dyadic.Mul OneRegister
-    ∷ wide.Row dyadic.Div OneRegister
-    ∷ wide.Unimplemented
-    ∷ wide.Unimplemented
-    ∷ wide.Unimplemented
-    ∷ wide.Unimplemented
-    ∷ wide.Row dyadic.Shr OneRegister
-    ∷ wide.Row dyadic.Ushr OneRegister
-    ∷ wide.Row dyadic.Shl OneRegister
-    ∷ wide.Row dyadic.Udiv OneRegister
-    ∷ wide.Row dyadic.Sub3 OneRegister
-    ∷ wide.Row dyadic.Or3 OneRegister
-    ∷ wide.Row dyadic.And3 OneRegister
-    ∷ wide.Row dyadic.Add3 OneRegister
-    ∷ wide.Row dyadic.Xor3 OneRegister
-    ∷ wide.Row dyadic.Rem3 OneRegister
-    ∷ wide.Row dyadic.Mul3 OneRegister
-    ∷ wide.Row dyadic.Div3 OneRegister
-    ∷ wide.Unimplemented
-    ∷ wide.Unimplemented
-    ∷ wide.Unimplemented
-    ∷ wide.Unimplemented
-    ∷ wide.Row dyadic.Shr3 OneRegister
-    ∷ wide.Row dyadic.Ushr3 OneRegister
-    ∷ wide.Row dyadic.Shl3 OneRegister
-    ∷ wide.Unimplemented
+    place.Unimplemented
+    ∷ place.Row dyadic.Ori OneRegister
+    ∷ place.Row dyadic.Andi OneRegister
+    ∷ place.Row dyadic.Addi OneRegister
+    ∷ place.Row dyadic.Mova Address
+    ∷ place.Row dyadic.Urem OneRegister
+    ∷ place.Row dyadic.Mov AnyTwo
+    ∷ place.Row dyadic.Dqm Multiple
+    ∷ place.Unimplemented
+    ∷ place.Unimplemented
+    ∷ place.Unimplemented
+    ∷ place.Unimplemented
+    ∷ place.Row dyadic.Tadd OneRegister
+    ∷ place.Row dyadic.Tsub OneRegister
+    ∷ place.Unimplemented
+    ∷ place.Unimplemented
+    ∷ place.Unimplemented
+    ∷ place.Unimplemented
+    ∷ place.Unimplemented
+    ∷ place.Unimplemented
+    ∷ place.Unimplemented
+    ∷ place.Unimplemented
+    ∷ place.Unimplemented
+    ∷ place.Unimplemented
+    ∷ place.Unimplemented
+    ∷ place.Unimplemented
+    ∷ place.Unimplemented
+    ∷ place.Unimplemented
+    ∷ place.Unimplemented
+    ∷ place.Row dyadic.Cmpgt OneRegister
+    ∷ place.Row dyadic.Cmphi OneRegister
+    ∷ place.Row dyadic.Cmpeq OneRegister
+    ∷ place.Row dyadic.Sub OneRegister
+    ∷ place.Row dyadic.Or OneRegister
+    ∷ place.Row dyadic.And OneRegister
+    ∷ place.Row dyadic.Add OneRegister
+    ∷ place.Row dyadic.Xor OneRegister
+    ∷ place.Row dyadic.Rem OneRegister
+    ∷ place.Row dyadic.Mul OneRegister
+    ∷ place.Row dyadic.Div OneRegister
+    ∷ place.Unimplemented
+    ∷ place.Unimplemented
+    ∷ place.Unimplemented
+    ∷ place.Unimplemented
+    ∷ place.Row dyadic.Shr OneRegister
+    ∷ place.Row dyadic.Ushr OneRegister
+    ∷ place.Row dyadic.Shl OneRegister
+    ∷ place.Row dyadic.Udiv OneRegister
+    ∷ place.Row dyadic.Sub3 OneRegister
+    ∷ place.Row dyadic.Or3 OneRegister
+    ∷ place.Row dyadic.And3 OneRegister
+    ∷ place.Row dyadic.Add3 OneRegister
+    ∷ place.Row dyadic.Xor3 OneRegister
+    ∷ place.Row dyadic.Rem3 OneRegister
+    ∷ place.Row dyadic.Mul3 OneRegister
+    ∷ place.Row dyadic.Div3 OneRegister
+    ∷ place.Unimplemented
+    ∷ place.Unimplemented
+    ∷ place.Unimplemented
+    ∷ place.Unimplemented
+    ∷ place.Row dyadic.Shr3 OneRegister
+    ∷ place.Row dyadic.Ushr3 OneRegister
+    ∷ place.Row dyadic.Shl3 OneRegister
+    ∷ place.Unimplemented
     ∷ []
 
 abbrev pub dyadic_of : ℕ → DyadicEntry
-dyadic_of k = get_or dyadic_table k wide.Unlisted
+dyadic_of k = get_or dyadic_table k place.Unlisted
 
 -- Table 1-19, subcodes 0 to 15: FLUSHDCE (0xD) is unimplemented
 abbrev pub monadic_table : List MonadicEntry
 monadic_table =
-    single.Row monadic.Kcall rule.Word
-    ∷ single.Row monadic.Call rule.Flow
-    ∷ single.Row monadic.Return rule.Stack
-    ∷ single.Row monadic.Jmp rule.Flow
-    ∷ single.Row monadic.Jmpfn rule.Jump
-    ∷ single.Row monadic.Jmpfy rule.Jump
-    ∷ single.Row monadic.Jmptn rule.Jump
-    ∷ single.Row monadic.Jmpty rule.Jump
-    ∷ single.Row monadic.Catch rule.Word
-    ∷ single.Row monadic.Enter rule.Enter
-    ∷ single.Row monadic.Ldraa rule.Flow
-    ∷ single.Row monadic.Flushpte rule.Word
-    ∷ single.Row monadic.Flushpbe rule.Word
-    ∷ single.Unimplemented
-    ∷ single.Unimplemented
-    ∷ single.Row monadic.Popn rule.Stack
+    place.Row monadic.Kcall rule.Word
+    ∷ place.Row monadic.Call rule.Flow
+    ∷ place.Row monadic.Return rule.Stack
+    ∷ place.Row monadic.Jmp rule.Flow
+    ∷ place.Row monadic.Jmpfn rule.Jump
+    ∷ place.Row monadic.Jmpfy rule.Jump
+    ∷ place.Row monadic.Jmptn rule.Jump
+    ∷ place.Row monadic.Jmpty rule.Jump
+    ∷ place.Row monadic.Catch rule.Word
+    ∷ place.Row monadic.Enter rule.Enter
+    ∷ place.Row monadic.Ldraa rule.Flow
+    ∷ place.Row monadic.Flushpte rule.Word
+    ∷ place.Row monadic.Flushpbe rule.Word
+    ∷ place.Unimplemented
+    ∷ place.Unimplemented
+    ∷ place.Row monadic.Popn rule.Stack
     ∷ []
 
 abbrev pub monadic_of : ℕ → MonadicEntry
-monadic_of k = get_or monadic_table k single.Unlisted
+monadic_of k = get_or monadic_table k place.Unlisted
 
 -- Table 1-21, modes 0 to 15
 abbrev pub general_table : List ModeEntry
@@ -236,13 +243,13 @@ abbrev pub prefixed_of : ℕ → ModeEntry
 prefixed_of k = get_or prefixed_table k mode.Unlisted
 
 -- the modes of a monadic from 0xC on: the word modes of Table 1-21, or those of Table 1-23
-abbrev pub monadic_modes : MonadicRule → List MonadicModeEntry
-monadic_modes rule.Word = place.Is WordAbsolute ∷ place.Is WordStack ∷ place.Is WordIndirect ∷ place.Is WordImmediate ∷ []
+abbrev pub monadic_modes : MonadicRule → List (Option MonadicMode)
+monadic_modes rule.Word = Some WordAbsolute ∷ Some WordStack ∷ Some WordIndirect ∷ Some WordImmediate ∷ []
 monadic_modes rule.Flow =
-    place.Is FlowAbsoluteIndirect ∷ place.Is FlowStackIndirect ∷ place.Is FlowRelative ∷ place.Is FlowAbsolute ∷ []
-monadic_modes rule.Jump = place.Unlisted ∷ place.Unlisted ∷ place.Is FlowRelative ∷ place.Is FlowAbsolute ∷ []
-monadic_modes rule.Stack = place.Unlisted ∷ place.Is WordStack ∷ place.Unlisted ∷ place.Unlisted ∷ []
-monadic_modes rule.Enter = place.Is WordAbsolute ∷ place.Is WordStack ∷ place.Is WordIndirect ∷ place.Is WordImmediate ∷ []
+    Some FlowAbsoluteIndirect ∷ Some FlowStackIndirect ∷ Some FlowRelative ∷ Some FlowAbsolute ∷ []
+monadic_modes rule.Jump = None ∷ None ∷ Some FlowRelative ∷ Some FlowAbsolute ∷ []
+monadic_modes rule.Stack = None ∷ Some WordStack ∷ None ∷ None ∷ []
+monadic_modes rule.Enter = Some WordAbsolute ∷ Some WordStack ∷ Some WordIndirect ∷ Some WordImmediate ∷ []
 
-abbrev pub monadic_mode_of : MonadicRule → ℕ → MonadicModeEntry
-monadic_mode_of r k = cond (ltb k 0xC) place.Unlisted (get_or (monadic_modes r) (k - 0xC) place.Unlisted)
+abbrev pub monadic_mode_of : MonadicRule → ℕ → Option MonadicMode
+monadic_mode_of r k = cond (ltb k 0xC) None (get_or (monadic_modes r) (k - 0xC) None)

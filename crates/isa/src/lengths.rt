@@ -20,7 +20,7 @@ pub fn wide_length(w: Wide) -> u32
 pub fn prefix_length(prefix: bool) -> u32
     ensures { result ≡ prefix_length prefix }
 {
-    if prefix { 1 } else { 0 }
+    u32::from(prefix)
 }
 
 pub fn length_of(i: Instruction) -> u32
@@ -40,5 +40,5 @@ pub fn length_of(i: Instruction) -> u32
 pub fn with_length(i: Instruction) -> Decoded
     ensures { result ≡ with_length i }
 {
-    Decoded::Is(i, length_of(i))
+    Ok((i, length_of(i)))
 }

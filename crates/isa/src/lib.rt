@@ -3,6 +3,7 @@
 // What these mean is defined in specs/; the crates decode_tables, decode, encode_tables and encode are the code.
 pub mod fields;
 pub mod lengths;
+mod registers;
 
 // A line of the encodings lists (section 3.3) at length 2: one parcel. The lines of CPU and FLUSHD are
 // no rows: the one is the `prefix` of another instruction, the other is unimplemented by its own page.
@@ -215,22 +216,20 @@ pub struct Text {
     pub p5: u16,
 }
 
-// What the decoder answers: an instruction with its length in parcels, the prefix counted, or what carries none: illegal;
-// unimplemented, with the offset of its vector, which of a trapped niladic is another (1.11.4); too few parcels.
-#[derive(Clone, Copy)]
-pub enum Decoded {
-    Is(Instruction, u32),
+// Why a text is no instruction: illegal; unimplemented, with the offset of its vector, which of a trapped niladic is another
+// (1.11.4); too few parcels.
+#[derive(Clone, Copy, PartialEq, Eq, Debug)]
+pub enum Undecoded {
     Illegal,
     Unimplemented(u32),
     Truncated,
 }
 
-// What the encoder answers.
-#[derive(Clone, Copy)]
-pub enum Encoded {
-    Parcels(Text),
-    NoCode,
-}
+// What the decoder answers: an instruction with its length in parcels, the prefix counted.
+pub type Decoded = Result<(Instruction, u32), Undecoded>;
+
+// What the encoder answers: the parcels, where there is a code.
+pub type Encoded = Option<Text>;
 
 // A place of Tables 1-15 to 1-17, with the operand letters of Table 1-15.
 #[derive(Clone, Copy)]
@@ -253,13 +252,16 @@ pub enum Rule {
     Multiple,
 }
 
-// A place of Tables 1-18 and 1-20.
+// A place of Tables 1-18 to 1-20: a row, and the rule of its operands.
 #[derive(Clone, Copy)]
-pub enum DyadicEntry {
-    Row(DyadicRow, Rule),
+pub enum Entry<Row, Rule> {
+    Row(Row, Rule),
     Unimplemented,
     Unlisted,
 }
+
+// A place of Tables 1-18 and 1-20.
+pub type DyadicEntry = Entry<DyadicRow, Rule>;
 
 // Which operands a monadic may have: word32, flow32, abs32, stk32 of Table 3-2, and ENTER's word32.
 #[derive(Clone, Copy)]
@@ -272,32 +274,13 @@ pub enum MonadicRule {
 }
 
 // A place of Table 1-19.
-#[derive(Clone, Copy)]
-pub enum MonadicEntry {
-    Row(MonadicRow, MonadicRule),
-    Unimplemented,
-    Unlisted,
-}
+pub type MonadicEntry = Entry<MonadicRow, MonadicRule>;
 
 // A place of Tables 1-21 and 1-22.
 #[derive(Clone, Copy)]
 pub enum ModeEntry {
     General(Mode),
     Register,
-    Unlisted,
-}
-
-// An operand field with its mode's number: the operand, or nothing where the mode is in no table.
-#[derive(Clone, Copy)]
-pub enum OperandFound {
-    Is(Operand),
-    Nothing,
-}
-
-// A place of the four word modes (0xC to 0xF) under a monadic's rule.
-#[derive(Clone, Copy)]
-pub enum MonadicModeEntry {
-    Is(MonadicMode),
     Unlisted,
 }
 

@@ -9,7 +9,8 @@ use parcels_listing::{PARCEL_COUNT, put_lines};
 
 const BLOCK: usize = 32768;
 
-// By a buffer that has room for a line, so that each portion goes on.
+// By a buffer that has room for a line, so that each portion goes on. It is no `for` over the parcels: a portion says where the
+// next one begins.
 fn print_list(rt: &HostRuntime, out: &mut [u8])
     requires { line_size ≤ length out.old }
 {

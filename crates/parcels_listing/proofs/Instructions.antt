@@ -14,8 +14,6 @@ use Rattle.isa.specs.declared.ShortEntry.TheVariants as entry
 use Rattle.isa.specs.declared.Instruction.{Instruction}
 use Rattle.isa.specs.declared.Instruction.TheVariants as instruction
 use Rattle.isa.specs.declared.Text.{Text}
-use Rattle.isa.specs.declared.Decoded.{Decoded}
-use Rattle.isa.specs.declared.Decoded.TheVariants.{Is}
 use Rattle.isa.specs.Lengths.{short_length, following}
 use Rattle.isa.specs.Fields.{short_opcode}
 use Rattle.isa.specs.Tables.{short_of}
@@ -28,6 +26,8 @@ use Rattle.roundtrip.proofs.RoundTrip.{short_text, encode_decode, decode_encode}
 use Rattle.parcels_listing.specs.Listing.{is_legal, on_list}
 use Rattle.parcels_listing.specs.Instructions.{OneParcel, Instructions}
 use Rattle.parcels_listing.proofs.OneParcelList.{listed_below, listed_answer}
+use Rattle.std.specs.Prelude.{Ok}
+use Rattle.isa.specs.Answers.{Decoded}
 
 -- a parcel whose top bit is 0 and that is no prefix is decoded by itself, whatever follows
 decode_first : (t : Text) → 1 ≤ t.count → t.p0 < 0x8000 → (t.p0 ≡ cpu_prefix → ⊥) → decode_of t ≡ decode_short t.p0
@@ -35,7 +35,7 @@ decode_first t c h n = short_text t.count t.p0 t.p1 t.p2 t.p3 t.p4 t.p5 c h n
 
 record OneParcelAnswer (d : Decoded) : Type 0 where
   found : Instruction
-  is : d ≡ Is found short_length
+  is : d ≡ Ok (found, short_length)
 
 short_legal : (e : ShortEntry) (p : ℕ) → is_legal (short_answer e p) ≡ true → OneParcelAnswer (short_answer e p)
 short_legal (entry.Row r s d) p h = record { found = instruction.Short (short_instruction r s d p); is = refl }
@@ -91,12 +91,12 @@ one_called_for t e c =
     (λ h. absurd (omega (arith, rw h at e)))
     (λ h. record { there = omega arith; below = first_only t.p0 (rw h at e); no_prefix = eqb-false t.p0 cpu_prefix h })
 
-decoded_listed_law : (t : Text) (i : Instruction) → decode_of t ≡ Is i short_length → on_list t.p0 ≡ true
+decoded_listed_law : (t : Text) (i : Instruction) → decode_of t ≡ Ok (i, short_length) → on_list t.p0 ≡ true
 unfolding on_list
 decoded_listed_law t i e =
-    let c : Carried (called_for t) t.count (Is i short_length) = rw e at (carried_length t) in
+    let c : Carried (called_for t) t.count (Ok (i, short_length)) = rw e at (carried_length t) in
     let o = one_called_for t c.1 c.2 in
-    let d : decode_of (text1 t.p0) ≡ Is i short_length =
+    let d : decode_of (text1 t.p0) ≡ Ok (i, short_length) =
     decode_first (text1 t.p0) (omega arith) o.below o.no_prefix ∙ sym (decode_first t o.there o.below o.no_prefix) ∙ e in
     rw (lt-ltb t.p0 0x8000 o.below, d) refl
 

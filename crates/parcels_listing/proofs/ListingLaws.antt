@@ -1,35 +1,17 @@
 -- The parcels on the list: each of them, once, rising.
 -- Assumes nothing.
-use Prim.Native.Nat.{ℕ, zero, suc, ◌+◌, ◌-◌, ◌/◌, ◌≤◌, ◌<◌}
+use Prim.Native.Nat.{ℕ, zero, suc, ◌+◌, ◌-◌, ◌≤◌, ◌<◌}
 use mathlib.Core.Path.{◌≡◌, refl, ap, ◌∙◌}
-use mathlib.Core.Bool.{Bool, true, false}
+use mathlib.Core.Bool.{true, false}
 use mathlib.Core.List.{List, [], ◌∷◌}
 use native.Mathlib.Numerals.{add-one}
 use native.Mathlib.Omega.{arith}
 use lib.ListN.{length, get_or, drop}
 use lib.Dec.{ltb}
-use borrow.Author.Tests.{ltb-true, ltb-false, lt-ltb, le-ltb}
+use borrow.Author.Tests.{ltb-true, ltb-false}
 use Rattle.word.proofs.CaseLaws.{by_test}
-use Rattle.isa.specs.declared.Decoded.{Decoded}
-use Rattle.isa.specs.Answers.{decoded_numbers}
-use Rattle.isa.specs.Decode.{decode_of}
-use Rattle.isa.specs.Encode.{text1}
-use Rattle.isa.proofs.AnswerLaws.{same_decoded}
-use Rattle.parcels_listing.specs.Listing.{is_legal, on_list, parcel_count, listed_of, listed_from}
+use Rattle.parcels_listing.specs.Listing.{on_list, parcel_count, listed_of, listed_from}
 use Rattle.parcels_listing.specs.OneParcelList.{Among}
-
--- ---- the test of one parcel
-
--- f is its form
-module _ (p f : ℕ) where
-  pub on_list_is : (d : Decoded) (r : Bool) → f ≡ p / 0x4000 → f < 2 → decoded_numbers d ≡ decoded_numbers (decode_of (text1 p))
-      → r ≡ is_legal d → r ≡ on_list p
-  unfolding on_list
-  on_list_is d r i h e g = rw (lt-ltb p 0x8000 (omega arith)) (g ∙ ap is_legal (same_decoded d (decode_of (text1 p)) e))
-
-  pub on_list_not : f ≡ p / 0x4000 → 2 ≤ f → false ≡ on_list p
-  unfolding on_list
-  on_list_not i h = rw (le-ltb p 0x8000 (omega arith)) refl
 
 -- ---- from a parcel on
 

@@ -11,8 +11,7 @@ use lib.Seq.{get_or-append-add, ext_get_or}
 use lib.Dec.{ltb}
 use borrow.Author.Tests.{ltb-true, ltb-false, lt-ltb}
 use Rattle.word.proofs.CaseLaws.{by_test, and_left, and_right}
-use Rattle.isa.specs.declared.Decoded.{Decoded}
-use Rattle.isa.specs.declared.Decoded.TheVariants.{Is, Illegal, Unimplemented, Truncated}
+use Rattle.isa.specs.declared.Undecoded.TheVariants.{Illegal, Unimplemented, Truncated}
 use Rattle.isa.specs.Fields.{short_opcode, short_operands}
 use Rattle.isa.specs.Decode.{cpu_prefix, decode_of, decode_prefixed}
 use Rattle.isa.specs.Encode.{text1}
@@ -24,6 +23,8 @@ use Rattle.parcels_listing.specs.OneParcelList.{parcel_at, opcode_at, operands_a
 use Rattle.parcels_listing.proofs.ListingLaws.{member_at, rising_list, place_of_law}
 use Rattle.parcels_listing.proofs.LineLaws.{length_lines, line_at, first_lines}
 use Rattle.parcels_listing.proofs.RisingLaws.{rising_once, rising_same, rising_count}
+use Rattle.std.specs.Prelude.{Ok, Err}
+use Rattle.isa.specs.Answers.{Decoded}
 
 -- ---- a line in a text, read
 
@@ -65,11 +66,11 @@ line_digit q i h =
 
 -- ---- legal and on the list
 
-legal_answer : (d : Decoded) → (d ≡ Illegal → ⊥) → ((v : ℕ) → d ≡ Unimplemented v → ⊥) → is_legal d ≡ true
-legal_answer (Is i n) f g = refl
-legal_answer Illegal f g = absurd (f refl)
-legal_answer (Unimplemented v) f g = absurd (g v refl)
-legal_answer Truncated f g = refl
+legal_answer : (d : Decoded) → (d ≡ Err Illegal → ⊥) → ((v : ℕ) → d ≡ Err (Unimplemented v) → ⊥) → is_legal d ≡ true
+legal_answer (Ok (i, n)) f g = refl
+legal_answer (Err Illegal) f g = absurd (f refl)
+legal_answer (Err (Unimplemented v)) f g = absurd (g v refl)
+legal_answer (Err Truncated) f g = refl
 
 answer_legal : (d e : Decoded) → is_legal d ≡ true → is_legal e ≡ false → d ≡ e → ⊥
 answer_legal d e f g h = absurd (true≢false (sym f ∙ ap is_legal h ∙ g))
@@ -90,8 +91,8 @@ module _ (p : ℕ) (h : on_list p ≡ true) where
   pub listed_legal_law : LegalParcel p
   listed_legal_law =
       record {
-        not_illegal = λ e. answer_legal (decode_of (text1 p)) Illegal listed_answer refl e;
-        not_unimplemented = λ v e. answer_legal (decode_of (text1 p)) (Unimplemented v) listed_answer refl e;
+        not_illegal = λ e. answer_legal (decode_of (text1 p)) (Err Illegal) listed_answer refl e;
+        not_unimplemented = λ v e. answer_legal (decode_of (text1 p)) (Err (Unimplemented v)) listed_answer refl e;
       }
 
 prefix_legal : LegalParcel cpu_prefix

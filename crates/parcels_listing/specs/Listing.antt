@@ -1,24 +1,24 @@
 -- Request (h), a list of every one-parcel instruction: "Print each legal one-parcel encoding once, by rising parcel value, as a line of
 -- nine upper-case hexadecimal digits: parcel (4), opcode (2), operand bits (3)."
 -- Assumes nothing.
-use Rattle.std.specs.Prelude.{ℕ, zero, suc, ◌-◌, Bool, true, false, cond, ◌&&◌, List, [], ◌∷◌, ◌++◌, ltb}
-use Rattle.isa.specs.declared.Decoded.{Decoded}
-use Rattle.isa.specs.declared.Decoded.TheVariants.{Is, Illegal, Unimplemented, Truncated}
+use Rattle.std.specs.Prelude.{ℕ, zero, suc, ◌-◌, Bool, true, false, cond, ◌&&◌, List, [], ◌∷◌, ◌++◌, ltb, Ok, Err}
+use Rattle.isa.specs.declared.Undecoded.TheVariants.{Illegal, Unimplemented, Truncated}
 use Rattle.isa.specs.Fields.{short_opcode, short_operands}
 use Rattle.isa.specs.Decode.{decode_of}
 use Rattle.isa.specs.Encode.{text1}
 use Rattle.hex_digits.specs.Digits.{digits}
 use Rattle.hex_digits.specs.Output.{newline}
+use Rattle.isa.specs.Answers.{Decoded}
 
 -- ---- which parcels
 
 -- "the decoder doesn't call it illegal or unimplemented"; a CPU prefix alone is cut text, which is neither: "The CPU prefix is listed
 -- as itself"
 abbrev pub is_legal : Decoded → Bool
-is_legal (Is i n) = true
-is_legal Illegal = false
-is_legal (Unimplemented v) = false
-is_legal Truncated = true
+is_legal (Ok (i, n)) = true
+is_legal (Err Illegal) = false
+is_legal (Err (Unimplemented v)) = false
+is_legal (Err Truncated) = true
 
 -- "A parcel whose top bit is 0 is on the list exactly when ..; no other parcel is": by the answer to it alone
 unfoldable pub on_list : ℕ → Bool

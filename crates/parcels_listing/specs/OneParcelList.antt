@@ -1,7 +1,7 @@
 -- Request (h), of the bytes of a text: that they are the list.
 -- Assumes nothing.
-use Rattle.std.specs.Prelude.{ℕ, ◌+◌, ◌*◌, ◌<◌, ◌≡◌, true, List, length, get_or}
-use Rattle.isa.specs.declared.Decoded.TheVariants.{Illegal, Unimplemented}
+use Rattle.std.specs.Prelude.{ℕ, ◌+◌, ◌*◌, ◌<◌, ◌≡◌, true, List, length, get_or, Err}
+use Rattle.isa.specs.declared.Undecoded.TheVariants.{Illegal, Unimplemented}
 use Rattle.isa.specs.Fields.{short_opcode, short_operands}
 use Rattle.isa.specs.Decode.{cpu_prefix, decode_of}
 use Rattle.isa.specs.Encode.{text1}
@@ -24,8 +24,8 @@ module _ (text : List ℕ) (k : ℕ) where
 -- ---- "the decoder doesn't call it illegal or unimplemented"
 
 pub record LegalParcel (p : ℕ) : Type 0 where
-  pub not_illegal : decode_of (text1 p) ≡ Illegal → ⊥
-  pub not_unimplemented : (v : ℕ) → decode_of (text1 p) ≡ Unimplemented v → ⊥
+  pub not_illegal : decode_of (text1 p) ≡ Err Illegal → ⊥
+  pub not_unimplemented : (v : ℕ) → decode_of (text1 p) ≡ Err (Unimplemented v) → ⊥
 
 -- ---- the list
 

@@ -9,7 +9,7 @@ ghost use Rattle.parcels_listing.specs.Portions.{portion, portion_of};
 use decode::decode;
 use decode::fields::{short_opcode, short_operands};
 use hex_digits::Output;
-use isa::Decoded;
+use isa::{Decoded, Undecoded};
 use word::fields::form_bits;
 
 // A parcel is below this.
@@ -30,23 +30,14 @@ pub struct ListState {
 fn is_legal(d: Decoded) -> bool
     ensures { result ≡ is_legal d }
 {
-    match d {
-        Decoded::Is(_, _) => true,
-        Decoded::Illegal => false,
-        Decoded::Unimplemented(_) => false,
-        Decoded::Truncated => true,
-    }
+    matches!(d, Ok(_) | Err(Undecoded::Truncated))
 }
 
 // Whether a parcel is on the list: its top bit is 0, and it is legal alone.
 pub fn on_list(p: u16) -> bool
     ensures { result ≡ on_list p }
 {
-    if form_bits(p) < 2 {
-        is_legal(decode(&[p]))
-    } else {
-        false
-    }
+    form_bits(p) < 2 && is_legal(decode(&[p]))
 }
 
 // The line of a parcel.
@@ -69,23 +60,18 @@ fn put_line(out: &mut [u8], at: usize, p: u32)
 pub fn put_lines(first: u32, out: &mut [u8]) -> ListState
     ensures { portion result.next (output out.new result.place) ≡ portion_of first out.old }
 {
-    let mut p = first;
     let mut place = 0;
-    while p < PARCEL_COUNT {
+    for p in first..PARCEL_COUNT {
         if on_list(p as u16) {
             if out.len() - place < LINE_SIZE {
-                return ListState {
-                    next: p,
-                    place: place,
-                };
+                return ListState { next: p, place };
             }
             put_line(out, place, p);
-            place = place + LINE_SIZE;
+            place += LINE_SIZE;
         }
-        p = p + 1;
     }
     ListState {
         next: PARCEL_COUNT,
-        place: place,
+        place,
     }
 }

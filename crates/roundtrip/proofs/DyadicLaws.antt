@@ -16,22 +16,19 @@ use Rattle.isa.specs.declared.ModeEntry.{ModeEntry}
 use Rattle.isa.specs.declared.ModeEntry.TheVariants as mode
 use Rattle.isa.specs.declared.Operand.{Operand}
 use Rattle.isa.specs.declared.Operand.TheVariants.{General, Register}
-use Rattle.isa.specs.declared.OperandFound.{OperandFound}
-use Rattle.isa.specs.declared.OperandFound.TheVariants as found
 use Rattle.isa.specs.declared.Wide.{Wide}
 use Rattle.isa.specs.declared.Wide.TheVariants.{Three, Five}
-use Rattle.isa.specs.declared.DyadicEntry.{DyadicEntry}
-use Rattle.isa.specs.declared.DyadicEntry.TheVariants as entry
+use Rattle.isa.specs.declared.Entry.TheVariants as entry
 use Rattle.isa.specs.declared.DyadicInstruction.{DyadicInstruction}
 use Rattle.isa.specs.declared.Instruction.{Instruction}
 use Rattle.isa.specs.declared.Instruction.TheVariants as instruction
-use Rattle.isa.specs.declared.Decoded.TheVariants.{Illegal, Unimplemented}
+use Rattle.isa.specs.declared.Undecoded.TheVariants.{Illegal, Unimplemented}
 use Rattle.isa.specs.declared.Text.{Text}
-use Rattle.isa.specs.declared.Encoded.TheVariants.{Parcels}
 use Rattle.isa.specs.declared.Rule.TheVariants.{OneRegister}
 use Rattle.isa.specs.Lengths.{wide_length, prefix_length, length_of}
 use Rattle.isa.specs.Answers.{unimplemented_vector, with_length}
-use Rattle.isa.specs.Tables.{dyadic_of}
+use Rattle.isa.proofs.AnswerLaws.{same_instruction}
+use Rattle.isa.specs.Tables.{dyadic_of, DyadicEntry}
 use Rattle.isa.specs.Legal.{legal_of}
 use Rattle.isa.specs.Decode.{operand_value, operand_found, mode_entry, both_found, decode_dyadic}
 use Rattle.isa.specs.Encodings.{dyadic_listed}
@@ -39,6 +36,7 @@ use Rattle.isa.specs.Encode.{with_prefix, operand_code, has_mode, fits, admits, 
 use Rattle.roundtrip.specs.Unused.{register_clear}
 use Rattle.isa.proofs.BoundLaws.{opcode_lt, operand_lt}
 use Rattle.roundtrip.proofs.DyadicTableLaws.{field_of, operand_back, rule_of, same_rule, row_back, RowThere, row_there, ModeThere, mode_there}
+use Rattle.std.specs.Prelude.{Option, Some, None, Err}
 
 -- ---- the first parcel
 
@@ -157,7 +155,7 @@ number_field Three x h = omega arith
 number_field Five x h = omega arith
 
 operand_there : (w : Wide) (pre : Bool) (e : ModeEntry) (k x : ℕ) (q : Operand) → ModeThere pre e k → x < limit_of w
-    → (pre ≡ true → register_clear k x ≡ true) → operand_found w e x ≡ found.Is q → Found w pre q k x
+    → (pre ≡ true → register_clear k x ≡ true) → operand_found w e x ≡ Some q → Found w pre q k x
 operand_there w pre (mode.General m) k x q t l c e =
     let r : General m (operand_value w m x) ≡ q = cc in
     let v = valued w m x l in
@@ -183,7 +181,7 @@ same_text Five o s d a b x y e f = rw (e, f) refl
 
 -- the encoding of what was decoded: the same opcode, modes and fields
 pub record Encodes (w : Wide) (pre : Bool) (o s d x y : ℕ) (j : Instruction) : Type 0 where
-  pub parcels : encode_any j ≡ Parcels (with_prefix pre (dyadic_text w o s d x y))
+  pub parcels : encode_any j ≡ Some (with_prefix pre (dyadic_text w o s d x y))
   pub length : length_of j ≡ wide_length w + prefix_length pre
 
 module _ (w : Wide) (pre : Bool) (o s d x y : ℕ) where
@@ -195,36 +193,30 @@ module _ (w : Wide) (pre : Bool) (o s d x y : ℕ) where
       record {
         parcels =
             rw (ew, ep, fs.mode, fd.mode, fs.fit, fd.fit, ea, eo, fs.code, fd.code)
-            (ap (λ (t : Text). Parcels (with_prefix pre t)) (same_text w o s d _ _ x y fs.field fd.field));
+            (ap (λ (t : Text). Some (with_prefix pre t)) (same_text w o s d _ _ x y fs.field fd.field));
         length = rw (ew, ep) refl;
       }
 
-  dyadic_there : (e : DyadicEntry) (fs fd : OperandFound) (j : Instruction) → RowThere e o
-      → ((q : Operand) → fs ≡ found.Is q → Found w pre q s x) → ((q : Operand) → fd ≡ found.Is q → Found w pre q d y)
+  dyadic_there : (e : DyadicEntry) (fs fd : Option Operand) (j : Instruction) → RowThere e o
+      → ((q : Operand) → fs ≡ Some q → Found w pre q s x) → ((q : Operand) → fd ≡ Some q → Found w pre q d y)
       → both_found e w pre fs fd ≡ with_length j → Encodes w pre o s d x y j
-  dyadic_there (entry.Row r u) (found.Is a) (found.Is b) j t hs hd e =
+  dyadic_there (entry.Row r u) (Some a) (Some b) j t hs hd e =
       by_test (legal_of u a b)
       (λ l.
       let i : DyadicInstruction = record { row = r; wide = w; prefix = pre; source = a; destination = b } in
       let q : with_length (instruction.Dyadic i) ≡ with_length j = simp l at e in
-      let k : instruction.Dyadic i ≡ j = cc in
+      let k : instruction.Dyadic i ≡ j = same_instruction (instruction.Dyadic i) j q in
       subst (Encodes w pre o s d x y) k
       (row_encodes i refl refl t.0 (hs a refl) (hd b refl) (same_rule (dyadic_listed r).operands a b ∙ ap (λ v. legal_of v a b) t.1 ∙ l)))
-      (λ l. let q : Illegal ≡ with_length j = simp l at e in let z : ◌≡◌ {A = ℕ} 0 1 = cc in absurd (omega arith))
-  dyadic_there (entry.Row r u) (found.Is a) found.Nothing j t hs hd e = let z : ◌≡◌ {A = ℕ} 0 1 = cc in absurd (omega arith)
-  dyadic_there (entry.Row r u) found.Nothing (found.Is b) j t hs hd e = let z : ◌≡◌ {A = ℕ} 0 1 = cc in absurd (omega arith)
-  dyadic_there (entry.Row r u) found.Nothing found.Nothing j t hs hd e = let z : ◌≡◌ {A = ℕ} 0 1 = cc in absurd (omega arith)
-  dyadic_there entry.Unimplemented (found.Is a) (found.Is b) j t hs hd e =
+      (λ l. let q : Err Illegal ≡ with_length j = simp l at e in let z : ◌≡◌ {A = ℕ} 0 1 = cc in absurd (omega arith))
+  dyadic_there entry.Unimplemented (Some a) (Some b) j t hs hd e =
       by_test (legal_of OneRegister a b)
-      (λ l. let q : Unimplemented unimplemented_vector ≡ with_length j = simp l at e in let z : ◌≡◌ {A = ℕ} 0 1 = cc in absurd (omega arith))
-      (λ l. let q : Illegal ≡ with_length j = simp l at e in let z : ◌≡◌ {A = ℕ} 0 1 = cc in absurd (omega arith))
-  dyadic_there entry.Unimplemented (found.Is a) found.Nothing j t hs hd e = let z : ◌≡◌ {A = ℕ} 0 1 = cc in absurd (omega arith)
-  dyadic_there entry.Unimplemented found.Nothing (found.Is b) j t hs hd e = let z : ◌≡◌ {A = ℕ} 0 1 = cc in absurd (omega arith)
-  dyadic_there entry.Unimplemented found.Nothing found.Nothing j t hs hd e = let z : ◌≡◌ {A = ℕ} 0 1 = cc in absurd (omega arith)
-  dyadic_there entry.Unlisted (found.Is a) (found.Is b) j t hs hd e = let z : ◌≡◌ {A = ℕ} 0 1 = cc in absurd (omega arith)
-  dyadic_there entry.Unlisted (found.Is a) found.Nothing j t hs hd e = let z : ◌≡◌ {A = ℕ} 0 1 = cc in absurd (omega arith)
-  dyadic_there entry.Unlisted found.Nothing (found.Is b) j t hs hd e = let z : ◌≡◌ {A = ℕ} 0 1 = cc in absurd (omega arith)
-  dyadic_there entry.Unlisted found.Nothing found.Nothing j t hs hd e = let z : ◌≡◌ {A = ℕ} 0 1 = cc in absurd (omega arith)
+      (λ l. let q : Err (Unimplemented unimplemented_vector) ≡ with_length j = simp l at e in let z : ◌≡◌ {A = ℕ} 0 1 = cc in absurd (omega arith))
+      (λ l. let q : Err Illegal ≡ with_length j = simp l at e in let z : ◌≡◌ {A = ℕ} 0 1 = cc in absurd (omega arith))
+  dyadic_there f (Some a) None j t hs hd e = let z : ◌≡◌ {A = ℕ} 0 1 = cc in absurd (omega arith)
+  dyadic_there f None (Some b) j t hs hd e = let z : ◌≡◌ {A = ℕ} 0 1 = cc in absurd (omega arith)
+  dyadic_there f None None j t hs hd e = let z : ◌≡◌ {A = ℕ} 0 1 = cc in absurd (omega arith)
+  dyadic_there entry.Unlisted (Some a) (Some b) j t hs hd e = let z : ◌≡◌ {A = ℕ} 0 1 = cc in absurd (omega arith)
 
 pub dyadic_encodes : (w : Wide) (pre : Bool) (p x y : ℕ) (j : Instruction) → x < limit_of w → y < limit_of w
     → (pre ≡ true → register_clear (p / 16 % 16) x ≡ true) → (pre ≡ true → register_clear (p % 16) y ≡ true)

@@ -16,7 +16,6 @@ use Rattle.isa.specs.declared.ModeEntry.{ModeEntry}
 use Rattle.isa.specs.declared.ModeEntry.TheVariants as mode
 use Rattle.isa.specs.declared.Operand.{Operand}
 use Rattle.isa.specs.declared.Operand.TheVariants.{General, Register}
-use Rattle.isa.specs.declared.OperandFound.TheVariants as found
 use Rattle.isa.specs.declared.Wide.{Wide}
 use Rattle.isa.specs.declared.Wide.TheVariants.{Three, Five}
 use Rattle.isa.specs.declared.Rule.{Rule}
@@ -25,13 +24,13 @@ use Rattle.isa.specs.declared.Operands.{Operands}
 use Rattle.isa.specs.declared.Operands.TheVariants.{Gen, GenWritten, GenAddress, GenMoved}
 use Rattle.isa.specs.declared.DyadicRow.{DyadicRow}
 use Rattle.isa.specs.declared.DyadicRow.TheVariants as row
-use Rattle.isa.specs.declared.DyadicEntry.{DyadicEntry}
-use Rattle.isa.specs.declared.DyadicEntry.TheVariants as entry
-use Rattle.isa.specs.Tables.{dyadic_of}
+use Rattle.isa.specs.declared.Entry.TheVariants as entry
+use Rattle.isa.specs.Tables.{dyadic_of, DyadicEntry}
 use Rattle.isa.specs.Legal.{word_in_memory, constant, double_word, legal_of}
 use Rattle.isa.specs.Decode.{operand_value, operand_found, mode_entry}
 use Rattle.isa.specs.Encodings.{dyadic_listed}
 use Rattle.isa.specs.Encode.{operand_code, has_mode, fits, moved_code, admits, operand_raw, mode_code, address_code}
+use Rattle.std.specs.Prelude.{Some}
 
 -- ---- modes and operands
 
@@ -98,10 +97,10 @@ number_back Three n h = omega arith
 number_back Five n h = omega arith
 
 pub operand_back : (pre : Bool) (w : Wide) (q : Operand) → has_mode pre q ≡ true → fits w q ≡ true
-    → operand_found w (mode_entry pre (operand_code q)) (field_of w (operand_raw q)) ≡ found.Is q
+    → operand_found w (mode_entry pre (operand_code q)) (field_of w (operand_raw q)) ≡ Some q
 operand_back pre w (General m v) h k =
-    ap (λ (e : ModeEntry). operand_found w e (field_of w v)) (mode_back pre m v h) ∙ ap (λ (x : ℕ). found.Is (General m x)) (value_back w m v k)
-operand_back true w (Register n) h k = ap (λ (x : ℕ). found.Is (Register x)) (number_back w n (ltb-true n 16 k))
+    ap (λ (e : ModeEntry). operand_found w e (field_of w v)) (mode_back pre m v h) ∙ ap (λ (x : ℕ). Some (General m x)) (value_back w m v k)
+operand_back true w (Register n) h k = ap (λ (x : ℕ). Some (Register x)) (number_back w n (ltb-true n 16 k))
 operand_back false w (Register n) h k = not_both h
 
 -- ---- legality: the decoder's rule of a row is the encoder's

@@ -15,25 +15,23 @@ use Rattle.isa.specs.declared.MonadicRule.{MonadicRule}
 use Rattle.isa.specs.declared.MonadicRule.TheVariants as rule
 use Rattle.isa.specs.declared.MonadicMode.{MonadicMode}
 use Rattle.isa.specs.declared.MonadicMode.TheVariants.{WordAbsolute, WordStack, WordIndirect, WordImmediate, FlowAbsoluteIndirect, FlowStackIndirect, FlowRelative, FlowAbsolute}
-use Rattle.isa.specs.declared.MonadicModeEntry.{MonadicModeEntry}
-use Rattle.isa.specs.declared.MonadicModeEntry.TheVariants as place
-use Rattle.isa.specs.declared.MonadicEntry.{MonadicEntry}
-use Rattle.isa.specs.declared.MonadicEntry.TheVariants as entry
+use Rattle.isa.specs.declared.Entry.TheVariants as entry
 use Rattle.isa.specs.declared.Single.{Single}
 use Rattle.isa.specs.declared.Single.TheVariants.{Word32, Flow32, Abs32, Stk32, EnterWord32}
 use Rattle.isa.specs.declared.MonadicInstruction.{MonadicInstruction}
 use Rattle.isa.specs.declared.Instruction.{Instruction}
 use Rattle.isa.specs.declared.Instruction.TheVariants as instruction
-use Rattle.isa.specs.declared.Decoded.TheVariants.{Illegal, Unimplemented}
-use Rattle.isa.specs.declared.Encoded.TheVariants.{Parcels}
+use Rattle.isa.specs.declared.Undecoded.TheVariants.{Illegal, Unimplemented}
 use Rattle.isa.specs.Lengths.{prefix_length, length_of}
 use Rattle.isa.specs.Answers.{unimplemented_vector, with_length}
-use Rattle.isa.specs.Tables.{monadic_of, monadic_mode_of}
+use Rattle.isa.proofs.AnswerLaws.{same_instruction}
+use Rattle.isa.specs.Tables.{monadic_of, monadic_mode_of, MonadicEntry}
 use Rattle.isa.proofs.BoundLaws.{subcode_lt, single_lt}
 use Rattle.isa.specs.Legal.{monadic_legal_of}
 use Rattle.isa.specs.Decode.{monadic_found, monadic_answer, decode_monadic}
 use Rattle.isa.specs.Encodings.{monadic_listed}
 use Rattle.isa.specs.Encode.{with_prefix, text3, monadic_code, takes, encode_monadic, encode_any}
+use Rattle.std.specs.Prelude.{Option, Some, None, Err}
 
 -- ---- the tables against the lists
 
@@ -75,7 +73,7 @@ negative v = ap not (positive v) ∙ twice (leb 0x8000_0000 v)
 
 -- a mode that a row takes stands at its number, and is judged as the decoder judges it
 record Taken (c : Single) (m : MonadicMode) (v : ℕ) : Type 0 where
-  place : monadic_mode_of (rule_of c) (monadic_code m) ≡ place.Is m
+  place : monadic_mode_of (rule_of c) (monadic_code m) ≡ Some m
   legal : monadic_legal_of (rule_of c) m v ≡ true
 
 taken : (c : Single) (m : MonadicMode) (v : ℕ) → takes c m v ≡ true → Taken c m v
@@ -128,9 +126,9 @@ RowThere entry.Unlisted k = Unit {0}
 pub row_there : (k : ℕ) → k < 16 → RowThere (monadic_of k) k
 row_there k h = within (λ n. RowThere (monadic_of n) n) 0 16 ((((((((((((((((tt, (refl, refl)), (refl, refl)), (refl, refl)), (refl, refl)), (refl, refl)), (refl, refl)), (refl, refl)), (refl, refl)), (refl, refl)), (refl, refl)), (refl, refl)), (refl, refl)), (refl, refl)), tt), tt), (refl, refl)) k zero-le h
 
-abbrev ModeThere : Single → MonadicModeEntry → ℕ → Type 0
-ModeThere c (place.Is m) k = (monadic_code m ≡ k) × ((v : ℕ) → takes c m v ≡ monadic_legal_of (rule_of c) m v)
-ModeThere c place.Unlisted k = Unit {0}
+abbrev ModeThere : Single → Option MonadicMode → ℕ → Type 0
+ModeThere c (Some m) k = (monadic_code m ≡ k) × ((v : ℕ) → takes c m v ≡ monadic_legal_of (rule_of c) m v)
+ModeThere c None k = Unit {0}
 
 mode_there : (c : Single) (k : ℕ) → k < 16 → ModeThere c (monadic_mode_of (rule_of c) k) k
 mode_there Word32 k h = within (λ n. ModeThere Word32 (monadic_mode_of (rule_of Word32) n) n) 0 16 ((((((((((((((((tt, tt), tt), tt), tt), tt), tt), tt), tt), tt), tt), tt), tt), (refl, λ v. refl)), (refl, λ v. refl)), (refl, λ v. refl)), (refl, λ v. refl)) k zero-le h
@@ -169,7 +167,7 @@ monadic_back i h =
 -- ---- decode, then encode
 
 pub record Encodes (pre : Bool) (k j v : ℕ) (i : Instruction) : Type 0 where
-  pub parcels : encode_any i ≡ Parcels (with_prefix pre (text3 (first_of k j) (v / 65536) (v % 65536)))
+  pub parcels : encode_any i ≡ Some (with_prefix pre (text3 (first_of k j) (v / 65536) (v % 65536)))
   pub length : length_of i ≡ 3 + prefix_length pre
 
 module _ (pre : Bool) (k j v : ℕ) where
@@ -178,16 +176,16 @@ module _ (pre : Bool) (k j v : ℕ) where
   unfolding encode_monadic
   row_encodes r m ej ek h = record { parcels = rw (h, ej, ek) refl; length = refl }
 
-  mode_encodes : (r : MonadicRow) (u : MonadicRule) (e : MonadicModeEntry) (i : Instruction) → (monadic_listed r).subcode ≡ j
+  mode_encodes : (r : MonadicRow) (u : MonadicRule) (e : Option MonadicMode) (i : Instruction) → (monadic_listed r).subcode ≡ j
       → rule_of (monadic_listed r).operand ≡ u → ModeThere (monadic_listed r).operand e k → monadic_found r u pre e v ≡ with_length i → Encodes pre k j v i
-  mode_encodes r u (place.Is m) i ej eu t e =
+  mode_encodes r u (Some m) i ej eu t e =
       by_test (monadic_legal_of u m v)
       (λ l.
       let q : with_length (instruction.Monadic (record { row = r; prefix = pre; mode = m; value = v })) ≡ with_length i = simp l at e in
-      let s : instruction.Monadic (record { row = r; prefix = pre; mode = m; value = v }) ≡ i = cc in
+      let s : instruction.Monadic (record { row = r; prefix = pre; mode = m; value = v }) ≡ i = same_instruction _ i q in
       subst (Encodes pre k j v) s (row_encodes r m ej t.0 (t.1 v ∙ ap (λ (w : MonadicRule). monadic_legal_of w m v) eu ∙ l)))
-      (λ l. let q : Illegal ≡ with_length i = simp l at e in let z : ◌≡◌ {A = ℕ} 0 1 = cc in absurd (omega arith))
-  mode_encodes r u place.Unlisted i ej eu t e = let z : ◌≡◌ {A = ℕ} 0 1 = cc in absurd (omega arith)
+      (λ l. let q : Err Illegal ≡ with_length i = simp l at e in let z : ◌≡◌ {A = ℕ} 0 1 = cc in absurd (omega arith))
+  mode_encodes r u None i ej eu t e = let z : ◌≡◌ {A = ℕ} 0 1 = cc in absurd (omega arith)
 
   entry_encodes : (e : MonadicEntry) (i : Instruction) → k < 16 → RowThere e j → monadic_answer e pre k v ≡ with_length i → Encodes pre k j v i
   entry_encodes (entry.Row r u) i h t e =
@@ -195,8 +193,8 @@ module _ (pre : Bool) (k j v : ℕ) where
       (subst (λ (w : MonadicRule). ModeThere (monadic_listed r).operand (monadic_mode_of w k) k) t.1 (mode_there (monadic_listed r).operand k h)) e
   entry_encodes entry.Unimplemented i h t e =
       by_test (ltb k 0xC)
-      (λ l. let q : Illegal ≡ with_length i = simp l at e in let z : ◌≡◌ {A = ℕ} 0 1 = cc in absurd (omega arith))
-      (λ l. let q : Unimplemented unimplemented_vector ≡ with_length i = simp l at e in let z : ◌≡◌ {A = ℕ} 0 1 = cc in absurd (omega arith))
+      (λ l. let q : Err Illegal ≡ with_length i = simp l at e in let z : ◌≡◌ {A = ℕ} 0 1 = cc in absurd (omega arith))
+      (λ l. let q : Err (Unimplemented unimplemented_vector) ≡ with_length i = simp l at e in let z : ◌≡◌ {A = ℕ} 0 1 = cc in absurd (omega arith))
   entry_encodes entry.Unlisted i h t e = let z : ◌≡◌ {A = ℕ} 0 1 = cc in absurd (omega arith)
 
 pub monadic_encodes : (pre : Bool) (p v : ℕ) (i : Instruction) → decode_monadic pre p v ≡ with_length i → Encodes pre (p / 16 % 16) (p % 16) v i

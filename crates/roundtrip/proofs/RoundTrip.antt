@@ -16,8 +16,8 @@ use Rattle.isa.specs.declared.ShortEntry.{ShortEntry}
 use Rattle.isa.specs.declared.ShortEntry.TheVariants as entry
 use Rattle.isa.specs.declared.Instruction.{Instruction}
 use Rattle.isa.specs.declared.Instruction.TheVariants as instruction
-use Rattle.isa.specs.declared.Decoded.TheVariants.{Is, Illegal, Truncated}
-use Rattle.isa.specs.declared.Encoded.TheVariants as encoded
+use Rattle.isa.proofs.AnswerLaws.{same_instruction}
+use Rattle.isa.specs.declared.Undecoded.TheVariants.{Illegal, Truncated}
 use Rattle.isa.specs.Lengths.{wide_length, length_of}
 use Rattle.isa.specs.Answers.{with_length}
 use Rattle.isa.specs.Tables.{short_of}
@@ -31,6 +31,7 @@ use Rattle.roundtrip.specs.Unused.{unused_zero, parcels_of, first_parcels}
 use Rattle.roundtrip.specs.RoundTrip.{EncodeDecode, DecodeEncode, Disagreeing}
 use Rattle.roundtrip.proofs.WideLaws.{given, dyadic_decodes, monadic_decodes}
 use Rattle.roundtrip.proofs.WideBackLaws.{Long, three, five, wide_back}
+use Rattle.std.specs.Prelude.{Some, None, Ok, Err}
 
 -- ---- one parcel
 
@@ -39,19 +40,19 @@ short_first : (p : ℕ) (j : Instruction) → decode_of (text1 p) ≡ with_lengt
 unfolding decode_of decode_prefixed decode_bare decode_wide
 short_first p j e =
     by_test (eqb p cpu_prefix)
-    (λ t. let q : Truncated ≡ with_length j = simp t at e in let z : ◌≡◌ {A = ℕ} 0 1 = cc in absurd (omega arith))
+    (λ t. let q : Err Truncated ≡ with_length j = simp t at e in let z : ◌≡◌ {A = ℕ} 0 1 = cc in absurd (omega arith))
     (λ t. by_test (ltb p 0x8000)
     (λ s. (ltb-true p 0x8000 s, simp (t, s) at e, eqb-false p cpu_prefix t))
     (λ s. by_test (ltb p 0xC000)
-    (λ u. let q : Truncated ≡ with_length j = simp (t, s, u) at e in let z : ◌≡◌ {A = ℕ} 0 1 = cc in absurd (omega arith))
-    (λ u. let q : Truncated ≡ with_length j = simp (t, s, u) at e in let z : ◌≡◌ {A = ℕ} 0 1 = cc in absurd (omega arith))))
+    (λ u. let q : Err Truncated ≡ with_length j = simp (t, s, u) at e in let z : ◌≡◌ {A = ℕ} 0 1 = cc in absurd (omega arith))
+    (λ u. let q : Err Truncated ≡ with_length j = simp (t, s, u) at e in let z : ◌≡◌ {A = ℕ} 0 1 = cc in absurd (omega arith))))
 
 pub short_text : (n p a b c d e : ℕ) → 1 ≤ n → p < 0x8000 → (p ≡ cpu_prefix → ⊥)
     → decode_of (record { count = n; p0 = p; p1 = a; p2 = b; p3 = c; p4 = d; p5 = e }) ≡ decode_short p
 unfolding decode_of decode_bare
 short_text n p a b c d e h l k = simp (le-ltb n 1 h, ne_eqb p cpu_prefix k, lt-ltb p 0x8000 l)
 
-short_decodes : (i : ShortInstruction) (t : Text) (rest : List ℕ) → encode_short i ≡ encoded.Parcels t
+short_decodes : (i : ShortInstruction) (t : Text) (rest : List ℕ) → encode_short i ≡ Some t
     → decode_of (text_of (parcels_of t ++ rest)) ≡ with_length (instruction.Short i)
 unfolding encode_short
 short_decodes i t rest e =
@@ -65,7 +66,7 @@ short_decodes i t rest e =
 
 -- ---- what the encoder gives decodes to the same instruction, whatever parcels follow
 
-any_decodes : (i : Instruction) (t : Text) (rest : List ℕ) → encode_any i ≡ encoded.Parcels t → decode_of (text_of (parcels_of t ++ rest)) ≡ with_length i
+any_decodes : (i : Instruction) (t : Text) (rest : List ℕ) → encode_any i ≡ Some t → decode_of (text_of (parcels_of t ++ rest)) ≡ with_length i
 any_decodes (instruction.Short i) t rest e = short_decodes i t rest e
 any_decodes (instruction.Dyadic i) t rest e = dyadic_decodes i t rest e
 any_decodes (instruction.Monadic i) t rest e = monadic_decodes i t rest e
@@ -74,8 +75,8 @@ pub encode_decode : EncodeDecode
 unfolding encode_of
 encode_decode i n t rest e =
     by_test (eqb n (length_of i))
-    (λ b. any_decodes i t rest (simp b at e) ∙ ap (Is i) (sym (eqb-true n (length_of i) b)))
-    (λ b. let q : encoded.NoCode ≡ encoded.Parcels t = simp b at e in let z : ◌≡◌ {A = ℕ} 0 1 = cc in absurd (omega arith))
+    (λ b. any_decodes i t rest (simp b at e) ∙ ap (λ (k : ℕ). Ok (i, k)) (sym (eqb-true n (length_of i) b)))
+    (λ b. let q : None ≡ Some t = simp b at e in let z : ◌≡◌ {A = ℕ} 0 1 = cc in absurd (omega arith))
 
 -- ---- the length
 
@@ -92,17 +93,17 @@ positive (instruction.Monadic i) = omega arith
 
 pub record Same (t : Text) (j : Instruction) : Type 0 where
   pub enough : length_of j ≤ t.count
-  pub parcels : encode_of j (length_of j) ≡ encoded.Parcels (first_parcels (length_of j) t)
+  pub parcels : encode_of j (length_of j) ≡ Some (first_parcels (length_of j) t)
 
 at_length : (j : Instruction) → encode_of j (length_of j) ≡ encode_any j
 unfolding encode_of
 at_length j = simp (eq-eqb (length_of j) (length_of j) refl)
 
-same : (t : Text) (j : Instruction) (n : ℕ) (u : Text) → length_of j ≡ n → n ≤ t.count → encode_any j ≡ encoded.Parcels u → u ≡ first_parcels n t → Same t j
+same : (t : Text) (j : Instruction) (n : ℕ) (u : Text) → length_of j ≡ n → n ≤ t.count → encode_any j ≡ Some u → u ≡ first_parcels n t → Same t j
 same t j n u e h p q =
     record {
       enough = omega (arith, e);
-      parcels = at_length j ∙ p ∙ ap encoded.Parcels (q ∙ ap (λ (k : ℕ). first_parcels k t) (sym e));
+      parcels = at_length j ∙ p ∙ ap Some (q ∙ ap (λ (k : ℕ). first_parcels k t) (sym e));
     }
 
 long_bare : (t : Text) (j : Instruction) → 1 ≤ t.count → Long false (t.count - 1) t.p0 t.p1 t.p2 t.p3 t.p4 j → Same t j
@@ -128,12 +129,7 @@ pub record Sixteen (t : Text) : Type 0 where
 short_answer_law : (e : ShortEntry) (p : ℕ) (j : Instruction) → ((i : ShortInstruction) → with_length (instruction.Short i) ≡ with_length j → Same (text1 p) j)
     → short_answer e p ≡ with_length j → Same (text1 p) j
 short_answer_law (entry.Row r s d) p j k e = k (short_instruction r s d p) e
-short_answer_law entry.Stack p j k e = let z : ◌≡◌ {A = ℕ} 0 1 = cc in absurd (omega arith)
-short_answer_law entry.Niladic p j k e = let z : ◌≡◌ {A = ℕ} 0 1 = cc in absurd (omega arith)
-short_answer_law entry.Prefix p j k e = let z : ◌≡◌ {A = ℕ} 0 1 = cc in absurd (omega arith)
-short_answer_law entry.Unimplemented p j k e = let z : ◌≡◌ {A = ℕ} 0 1 = cc in absurd (omega arith)
-short_answer_law entry.Trap p j k e = let z : ◌≡◌ {A = ℕ} 0 1 = cc in absurd (omega arith)
-short_answer_law entry.Unlisted p j k e = let z : ◌≡◌ {A = ℕ} 0 1 = cc in absurd (omega arith)
+short_answer_law f p j k e = let z : ◌≡◌ {A = ℕ} 0 1 = cc in absurd (omega arith)
 
 short_same : (p : ℕ) (j : Instruction) → p < 0x8000 → decode_short p ≡ with_length j → Same (text1 p) j
 unfolding decode_short
@@ -141,7 +137,7 @@ short_same p j h e = short_answer_law (short_entry (short_of (p / 1024 % 32)) p)
   where
     back : (i : ShortInstruction) → with_length (instruction.Short i) ≡ with_length j → Same (text1 p) j
     back i q =
-        let r : instruction.Short i ≡ j = cc in
+        let r : instruction.Short i ≡ j = same_instruction (instruction.Short i) j q in
         let d = subst (λ (k : Instruction). decode_short p ≡ with_length k) (sym r) e in
         subst (Same (text1 p)) r (same (text1 p) (instruction.Short i) 1 (text1 p) refl (omega arith) (short.decode_encode p i h d) refl)
 
@@ -151,19 +147,19 @@ widened t j h s =
     let e : length_of j ≡ 1 = omega (arith, s.enough, positive j) in
     record {
       enough = omega (arith, e);
-      parcels = s.parcels ∙ ap (λ (k : ℕ). encoded.Parcels (first_parcels k (text1 t.p0))) e ∙ ap (λ (k : ℕ). encoded.Parcels (first_parcels k t)) (sym e);
+      parcels = s.parcels ∙ ap (λ (k : ℕ). Some (first_parcels k (text1 t.p0))) e ∙ ap (λ (k : ℕ). Some (first_parcels k t)) (sym e);
     }
 
 pub text_encode : (t : Text) (j : Instruction) → Sixteen t → unused_zero t ≡ true → decode_of t ≡ with_length j → Same t j
 unfolding decode_of decode_prefixed decode_bare
 text_encode t j b u e =
     by_test (ltb t.count 1)
-    (λ n. let q : Truncated ≡ with_length j = simp n at e in let z : ◌≡◌ {A = ℕ} 0 1 = cc in absurd (omega arith))
+    (λ n. let q : Err Truncated ≡ with_length j = simp n at e in let z : ◌≡◌ {A = ℕ} 0 1 = cc in absurd (omega arith))
     (λ n. by_test (eqb t.p0 cpu_prefix)
     (λ p. by_test (ltb t.count 2)
-    (λ m. let q : Truncated ≡ with_length j = simp (n, p, m) at e in let z : ◌≡◌ {A = ℕ} 0 1 = cc in absurd (omega arith))
+    (λ m. let q : Err Truncated ≡ with_length j = simp (n, p, m) at e in let z : ◌≡◌ {A = ℕ} 0 1 = cc in absurd (omega arith))
     (λ m. by_test (ltb t.p1 0x8000)
-    (λ k. let q : Illegal ≡ with_length j = simp (n, p, m, k) at e in let z : ◌≡◌ {A = ℕ} 0 1 = cc in absurd (omega arith))
+    (λ k. let q : Err Illegal ≡ with_length j = simp (n, p, m, k) at e in let z : ◌≡◌ {A = ℕ} 0 1 = cc in absurd (omega arith))
     (λ k.
     long_prefixed t j (eqb-true t.p0 cpu_prefix p) (ltb-false t.count 2 m)
     (wide_back true (t.count - 2) t.p1 t.p2 t.p3 t.p4 t.p5 j b.b2 b.b3 b.b4 b.b5
@@ -195,6 +191,6 @@ first_take n ps h l =
 pub decode_encode : DecodeEncode
 decode_encode ps j n b u e =
     let l = own_length (text_of ps) j n e in
-    let s = text_encode (text_of ps) j (record { b0 = b 0; b1 = b 1; b2 = b 2; b3 = b 3; b4 = b 4; b5 = b 5 }) u (e ∙ ap (Is j) l) in
-    subst (λ (k : ℕ). (k ≤ length ps) × (encode_of j k ≡ encoded.Parcels (text_of (take k ps)))) (sym l)
-    (s.enough, s.parcels ∙ ap encoded.Parcels (first_take (length_of j) ps (positive j) s.enough))
+    let s = text_encode (text_of ps) j (record { b0 = b 0; b1 = b 1; b2 = b 2; b3 = b 3; b4 = b 4; b5 = b 5 }) u (e ∙ ap (λ (k : ℕ). Ok (j, k)) l) in
+    subst (λ (k : ℕ). (k ≤ length ps) × (encode_of j k ≡ Some (text_of (take k ps)))) (sym l)
+    (s.enough, s.parcels ∙ ap Some (first_take (length_of j) ps (positive j) s.enough))

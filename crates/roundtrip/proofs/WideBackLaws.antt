@@ -10,8 +10,7 @@ use lib.Dec.{ltb, eqb}
 use Rattle.word.proofs.CaseLaws.{by_test, and_left, and_right}
 use Rattle.isa.specs.declared.Wide.TheVariants.{Three, Five}
 use Rattle.isa.specs.declared.Instruction.{Instruction}
-use Rattle.isa.specs.declared.Decoded.TheVariants.{Truncated}
-use Rattle.isa.specs.declared.Encoded.TheVariants.{Parcels}
+use Rattle.isa.specs.declared.Undecoded.TheVariants.{Truncated}
 use Rattle.isa.specs.Lengths.{prefix_length, length_of}
 use Rattle.isa.specs.Answers.{with_length}
 use Rattle.isa.specs.Decode.{decode_wide, decode_three, decode_dyadic, decode_monadic, joined}
@@ -19,11 +18,12 @@ use Rattle.isa.specs.Encode.{with_prefix, text3, text5, encode_any}
 use Rattle.roundtrip.specs.Unused.{register_clear, fields_clear}
 use Rattle.roundtrip.proofs.DyadicLaws as dyadic
 use Rattle.roundtrip.proofs.MonadicLaws as monadic
+use Rattle.std.specs.Prelude.{Some, Err}
 
 -- an instruction whose encoding is the first parcel and the fields after it
 pub data Long (pre : Bool) (n p a b c d : ℕ) (j : Instruction) : Type 0 where
-  three : 2 ≤ n → encode_any j ≡ Parcels (with_prefix pre (text3 p a b)) → length_of j ≡ 3 + prefix_length pre → Long pre n p a b c d j
-  five : 4 ≤ n → encode_any j ≡ Parcels (with_prefix pre (text5 p a b c d)) → length_of j ≡ 5 + prefix_length pre → Long pre n p a b c d j
+  three : 2 ≤ n → encode_any j ≡ Some (with_prefix pre (text3 p a b)) → length_of j ≡ 3 + prefix_length pre → Long pre n p a b c d j
+  five : 4 ≤ n → encode_any j ≡ Some (with_prefix pre (text5 p a b c d)) → length_of j ≡ 5 + prefix_length pre → Long pre n p a b c d j
 
 module _ (pre : Bool) (n p a b c d : ℕ) (j : Instruction) (ha : a < 65536) (hb : b < 65536) (hc : c < 65536) (hd : d < 65536) where
   three_monadic : 2 ≤ n → 0x8000 ≤ p → p < 0xC000 → p / 256 % 64 ≡ 0 → decode_monadic pre p (joined a b) ≡ with_length j → Long pre n p a b c d j
@@ -69,8 +69,8 @@ module _ (pre : Bool) (n p a b c d : ℕ) (j : Instruction) (ha : a < 65536) (hb
   wide_back l u k e =
       by_test (ltb p 0xC000)
       (λ t. by_test (ltb n 2)
-      (λ s. let q : Truncated ≡ with_length j = simp (t, s) at e in let z : ◌≡◌ {A = ℕ} 0 1 = cc in absurd (omega arith))
+      (λ s. let q : Err Truncated ≡ with_length j = simp (t, s) at e in let z : ◌≡◌ {A = ℕ} 0 1 = cc in absurd (omega arith))
       (λ s. three_back (ltb-false n 2 s) l (ltb-true p 0xC000 t) k (simp (t, s) at e)))
       (λ t. by_test (ltb n 4)
-      (λ s. let q : Truncated ≡ with_length j = simp (t, s) at e in let z : ◌≡◌ {A = ℕ} 0 1 = cc in absurd (omega arith))
+      (λ s. let q : Err Truncated ≡ with_length j = simp (t, s) at e in let z : ◌≡◌ {A = ℕ} 0 1 = cc in absurd (omega arith))
       (λ s. five_dyadic (ltb-false n 4 s) (ltb-false p 0xC000 t) u (λ r. simp t at (k r)) (simp (t, s) at e)))

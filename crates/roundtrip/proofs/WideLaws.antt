@@ -11,7 +11,6 @@ use Rattle.isa.specs.declared.Text.{Text}
 use Rattle.isa.specs.declared.DyadicInstruction.{DyadicInstruction}
 use Rattle.isa.specs.declared.MonadicInstruction.{MonadicInstruction}
 use Rattle.isa.specs.declared.Instruction.TheVariants as instruction
-use Rattle.isa.specs.declared.Encoded.TheVariants.{Parcels}
 use Rattle.isa.specs.Answers.{with_length}
 use Rattle.isa.specs.Decode.{decode_of, decode_dyadic, decode_monadic, joined, text_of}
 use Rattle.isa.specs.Encodings.{dyadic_listed, monadic_listed}
@@ -22,13 +21,14 @@ use Rattle.isa.proofs.BoundLaws.{opcode_lt, subcode_lt, operand_lt, single_lt}
 use Rattle.roundtrip.proofs.DyadicTableLaws.{field_of, opcode_pos}
 use Rattle.roundtrip.proofs.DyadicLaws as dyadic
 use Rattle.roundtrip.proofs.MonadicLaws as monadic
+use Rattle.std.specs.Prelude.{Some}
 
 -- what was encoded has a code, and is that text
 pub record Given (b : Bool) (t u : Text) : Type 0 where
   pub holds : b ≡ true
   pub text : t ≡ u
 
-pub given : (b : Bool) (t u : Text) → coded b t ≡ Parcels u → Given b t u
+pub given : (b : Bool) (t u : Text) → coded b t ≡ Some u → Given b t u
 given true t u e = record { holds = refl; text = cc }
 given false t u e = let z : ◌≡◌ {A = ℕ} 0 1 = cc in absurd (omega arith)
 
@@ -56,7 +56,7 @@ module _ (o s d x y : ℕ) (ho : o < 64) (hp : 0 < o) (hs : s < 16) (hd : d < 16
       ∙ ap₂ (decode_dyadic Five true (dyadic.first_of Five o s d)) (halves x) (halves y)
 
 -- dyadic_text with its first parcel named
-pub dyadic_decodes : (i : DyadicInstruction) (t : Text) (rest : List ℕ) → encode_dyadic i ≡ Parcels t
+pub dyadic_decodes : (i : DyadicInstruction) (t : Text) (rest : List ℕ) → encode_dyadic i ≡ Some t
     → decode_of (text_of (parcels_of t ++ rest)) ≡ with_length (instruction.Dyadic i)
 unfolding encode_dyadic
 dyadic_decodes i t rest e =
@@ -80,7 +80,7 @@ module _ (k j v : ℕ) (hk : k < 16) (hj : j < 16) (rest : List ℕ) where
       prefixed_three _ (monadic.first_of k j) (v / 65536) (v % 65536) _ _ 0 (omega arith) (omega arith) (omega arith)
       ∙ three_monadic true _ _ _ zero ∙ ap (decode_monadic true (monadic.first_of k j)) (halves v)
 
-pub monadic_decodes : (i : MonadicInstruction) (t : Text) (rest : List ℕ) → encode_monadic i ≡ Parcels t
+pub monadic_decodes : (i : MonadicInstruction) (t : Text) (rest : List ℕ) → encode_monadic i ≡ Some t
     → decode_of (text_of (parcels_of t ++ rest)) ≡ with_length (instruction.Monadic i)
 unfolding encode_monadic
 monadic_decodes i t rest e =

@@ -1,10 +1,9 @@
 -- One step as one program: an event sequence, or fetch, instruction and, at a fault, its exception sequence.
 -- Assumes nothing.
-use Rattle.std.specs.Prelude.{ℕ, Bool, true, false, cond, not, ◌||◌, eqb}
+use Rattle.std.specs.Prelude.{ℕ, Bool, true, false, cond, not, ◌||◌, eqb, Ok, Err}
 use Rattle.word.specs.Fields.{bit_of}
 use Rattle.isa.specs.declared.Instruction.{Instruction}
-use Rattle.isa.specs.declared.Decoded.{Decoded}
-use Rattle.isa.specs.declared.Decoded.TheVariants.{Is, Illegal, Unimplemented, Truncated}
+use Rattle.isa.specs.declared.Undecoded.TheVariants.{Illegal, Unimplemented, Truncated}
 use Rattle.isa.specs.Decode.{decode_of}
 use Rattle.access_spec.specs.Program.{Program, ret, after}
 use Rattle.machine.specs.Registers.{config, psw, trace_due, sp, msp, stack_held}
@@ -17,6 +16,7 @@ use Rattle.step_spec.specs.Events.{Event, Due, none, due, due_of, looked, take}
 use Rattle.step_spec.specs.Timers.{counted}
 use Rattle.memory.specs.Exceptions.{illegal_instruction}
 use Rattle.machine.specs.Bits.{trace_instruction_bit, trace_block_bit}
+use Rattle.isa.specs.Answers.{Decoded}
 
 -- ---- what the text at PC is
 
@@ -26,10 +26,10 @@ pub data Dispatch : Type 0 where
   to_vector : ℕ → Dispatch
 
 abbrev pub dispatch : Cpu → Decoded → Out Dispatch
-dispatch c (Is i n) = ok (to_instruction i n)
-dispatch c Illegal = stop illegal_instruction c
-dispatch c (Unimplemented v) = ok (to_vector v)
-dispatch c Truncated = stop illegal_instruction c
+dispatch c (Ok (i, n)) = ok (to_instruction i n)
+dispatch c (Err Illegal) = stop illegal_instruction c
+dispatch c (Err (Unimplemented v)) = ok (to_vector v)
+dispatch c (Err Truncated) = stop illegal_instruction c
 
 unfoldable pub fetch_instruction : Cpu → Program (Out Dispatch)
 fetch_instruction c = do

@@ -1,7 +1,7 @@
 #![tactic(auto)]
 // Reads parcels, one instruction a line, and writes the number that decoding answers and, for an instruction, its eight
 // words, in hexadecimal. A mark follows where encoding the words at their length does not give the parcels back.
-ghost use Rattle.std.specs.Prelude.{◌≤◌};
+ghost use Rattle.std.specs.Prelude.{◌<◌, ◌≤◌, IfSome};
 
 use hobbit_blocks::{decode_into, encode_from};
 
@@ -9,7 +9,7 @@ use hobbit_blocks::{decode_into, encode_from};
 const REGISTER: u32 = 16;
 
 // A line so far: its digits, and the parcels that they make.
-#[derive(Clone, Copy)]
+#[derive(Drop)]
 struct Line {
     digits: usize,
     parcels: [u16; 6],
@@ -19,8 +19,7 @@ struct Line {
 fn length_in(block: [u32; 8]) -> usize
     ensures { result ≤ 6 }
 {
-    let n = block[2] as usize;
-    if n < 6 { n } else { 6 }
+    block[2].min(6) as usize
 }
 
 // Of a register's number only bits 3:0 count (section 1.7): below is 16 for the parcel that has them, else 1.
@@ -57,32 +56,11 @@ fn without_unused(block: [u32; 8], p: [u16; 6]) -> [u16; 6] {
     }
 }
 
-// The first n of six parcels, at least one.
-fn same_parcels(a: [u16; 6], b: [u16; 6], n: usize) -> bool {
-    (a[0] == b[0])
-        & ((n < 2) | (a[1] == b[1]))
-        & ((n < 3) | (a[2] == b[2]))
-        & ((n < 4) | (a[3] == b[3]))
-        & ((n < 5) | (a[4] == b[4]))
-        & ((n < 6) | (a[5] == b[5]))
-}
-
-fn same_words(a: [u32; 8], b: [u32; 8]) -> bool {
-    (a[0] == b[0])
-        & (a[1] == b[1])
-        & (a[2] == b[2])
-        & (a[3] == b[3])
-        & (a[4] == b[4])
-        & (a[5] == b[5])
-        & (a[6] == b[6])
-        & (a[7] == b[7])
-}
-
 // The words of the first n parcels, all 0 where they are no instruction.
 fn decoded(parcels: [u16; 6], n: usize) -> [u32; 8] {
     let mut block = [0u32; 8];
-    if n <= 6 {
-        decode_into(&parcels[..n], &mut block);
+    if let Some(text) = parcels.get(..n) {
+        decode_into(text, &mut block);
     }
     block
 }
@@ -92,10 +70,8 @@ fn agrees(block: [u32; 8], given: [u16; 6], count: usize) -> bool {
     let n = length_in(block);
     let mut own = [0u16; 6];
     let refusal = encode_from(&block, n as u32, &mut own);
-    (refusal == 0)
-        & (n <= count)
-        & same_words(decoded(own, n), block)
-        & same_parcels(own, without_unused(block, given), n)
+    let used = without_unused(block, given);
+    refusal == 0 && n <= count && decoded(own, n) == block && own[..n] == used[..n]
 }
 
 fn put(word: u32) {
@@ -103,21 +79,15 @@ fn put(word: u32) {
     io::print_hex(1, word as u64, 1);
 }
 
-fn put_words(block: [u32; 8]) {
-    let mut i = 0;
-    while i < 8 {
-        put(block[i]);
-        i = i + 1;
-    }
-}
-
 fn answer(parcels: [u16; 6], count: usize) {
     let mut block = [0u32; 8];
-    if count <= 6 {
-        let number = decode_into(&parcels[..count], &mut block);
+    if let Some(text) = parcels.get(..count) {
+        let number = decode_into(text, &mut block);
         io::print_hex(1, number as u64, 1);
         if number == 0 {
-            put_words(block);
+            for word in block {
+                put(word);
+            }
             if !agrees(block, parcels, count) {
                 io::write_all(1, b" differs");
             }
@@ -126,47 +96,32 @@ fn answer(parcels: [u16; 6], count: usize) {
     }
 }
 
-// The number of an upper-case hexadecimal digit, 16 of any other byte.
-fn digit(b: u8) -> u16 {
-    if b'0' <= b && b <= b'9' {
-        (b - 48) as u16
-    } else if b'A' <= b && b <= b'F' {
-        (b - 55) as u16
-    } else {
-        16
+// The number of an upper-case hexadecimal digit.
+fn digit(b: u8) -> Option<u16>
+    ensures { IfSome result (λ d. d < 16) }
+{
+    match b {
+        b'0'..=b'9' => Some(u16::from(b - b'0')),
+        b'A'..=b'F' => Some(u16::from(b - b'A') + 10),
+        _ => None,
     }
 }
 
-// What is no digit, as the `-` of no parcel, and a digit after six parcels count for nothing.
-fn take_byte(line: Line, b: u8) -> Line {
-    let digits = line.digits;
-    let mut parcels = line.parcels;
-    if b == b'\n' {
-        answer(parcels, digits / 4);
-        return Line { digits: 0, parcels };
-    }
-    let d = digit(b);
-    if digits < 24 {
-        if d < 16 {
-            let k = digits / 4;
-            parcels[k] = parcels[k] % 4096 * 16 + d;
-            return Line {
-                digits: digits + 1,
-                parcels,
-            };
+impl Line {
+    // What is no digit, as the `-` of no parcel, and a digit after six parcels count for nothing.
+    fn take(&mut self, b: u8) {
+        if b == b'\n' {
+            answer(self.parcels, self.digits / 4);
+            self.digits = 0;
+            return;
+        }
+        let Some(d) = digit(b) else { return };
+        if self.digits < 24 {
+            let k = self.digits / 4;
+            self.parcels[k] = self.parcels[k] % 4096 * 16 + d;
+            self.digits += 1;
         }
     }
-    line
-}
-
-fn take_block(block: &[u8], line: Line) -> Line {
-    let mut next = line;
-    let mut i = 0;
-    while i < block.len() {
-        next = take_byte(next, block[i]);
-        i = i + 1;
-    }
-    next
 }
 
 fn main() {
@@ -176,14 +131,14 @@ fn main() {
         digits: 0,
         parcels: [0; 6],
     };
-    // A proved loop has to end: it counts down from a number that no run uses up.
-    let mut turns = u64::MAX;
-    while 0 < turns {
+    // A proved loop has to end: no run reads so often.
+    for _ in 0..u64::MAX {
         let n = io::read_full(0, block);
         if n == 0 {
             return;
         }
-        line = take_block(&block[..n], line);
-        turns = turns - 1;
+        for b in &block[..n] {
+            line.take(*b);
+        }
     }
 }

@@ -1,6 +1,6 @@
 -- Wrong answers of a decoder and an encoder, each at a text or an instruction at which the definition answers otherwise.
 -- Assumes nothing.
-use Rattle.std.specs.Prelude.{ℕ, Bool, true, false, List, [], ◌∷◌, T}
+use Rattle.std.specs.Prelude.{ℕ, Bool, true, false, List, [], ◌∷◌, T, Ok, Err}
 use Rattle.isa.specs.declared.ShortRow.{ShortRow}
 use Rattle.isa.specs.declared.ShortRow.TheVariants as short
 use Rattle.isa.specs.declared.DyadicRow.{DyadicRow}
@@ -12,9 +12,8 @@ use Rattle.isa.specs.declared.Wide.{Wide}
 use Rattle.isa.specs.declared.Wide.TheVariants.{Three, Five}
 use Rattle.isa.specs.declared.Instruction.{Instruction}
 use Rattle.isa.specs.declared.Instruction.TheVariants.{Short, Dyadic, Monadic}
-use Rattle.isa.specs.declared.Decoded.{Decoded}
-use Rattle.isa.specs.declared.Decoded.TheVariants as answer
-use Rattle.isa.specs.Answers.{unimplemented_code, DecodedNumbers, decoded_to, decoded_exception, decoded_event, decoded_refusal, decoded_numbers}
+use Rattle.isa.specs.declared.Undecoded.TheVariants as answer
+use Rattle.isa.specs.Answers.{unimplemented_code, DecodedNumbers, decoded_to, decoded_exception, decoded_event, decoded_refusal, decoded_numbers, Decoded}
 use Rattle.isa.specs.Answers.{EncodedNumbers, encoded_to, encoded_refusal, encoded_numbers}
 use Rattle.isa.specs.Encodings.{dyadic_listed}
 use Rattle.isa.specs.Decode.{decode_short, decode_dyadic, decode_monadic, decode_three, decode_wide, decode_prefixed, decode_bare, decode_of, text_of}
@@ -49,35 +48,35 @@ none_carried = 0xFF
 
 -- the length that an answer carries
 abbrev pub length_in : Decoded → ℕ
-length_in (answer.Is i n) = n
-length_in answer.Illegal = none_carried
-length_in (answer.Unimplemented v) = none_carried
-length_in answer.Truncated = none_carried
+length_in (Ok (i, n)) = n
+length_in (Err answer.Illegal) = none_carried
+length_in (Err (answer.Unimplemented v)) = none_carried
+length_in (Err answer.Truncated) = none_carried
 
 -- the offset of the vector that an answer carries
 abbrev pub vector_in : Decoded → ℕ
-vector_in (answer.Is i n) = none_carried
-vector_in answer.Illegal = none_carried
-vector_in (answer.Unimplemented v) = v
-vector_in answer.Truncated = none_carried
+vector_in (Ok (i, n)) = none_carried
+vector_in (Err answer.Illegal) = none_carried
+vector_in (Err (answer.Unimplemented v)) = v
+vector_in (Err answer.Truncated) = none_carried
 
 -- the opcode of a dyadic's row by the encodings lists; 0x40 for any other answer
 abbrev pub opcode_in : Decoded → ℕ
-opcode_in (answer.Is (Short i) n) = 0x40
-opcode_in (answer.Is (Dyadic i) n) = (dyadic_listed i.row).opcode
-opcode_in (answer.Is (Monadic i) n) = 0x40
-opcode_in answer.Illegal = 0x40
-opcode_in (answer.Unimplemented v) = 0x40
-opcode_in answer.Truncated = 0x40
+opcode_in (Ok (Short i, n)) = 0x40
+opcode_in (Ok (Dyadic i, n)) = (dyadic_listed i.row).opcode
+opcode_in (Ok (Monadic i, n)) = 0x40
+opcode_in (Err answer.Illegal) = 0x40
+opcode_in (Err (answer.Unimplemented v)) = 0x40
+opcode_in (Err answer.Truncated) = 0x40
 
 -- the source of a one-parcel instruction; 0 for any other answer
 abbrev pub source_in : Decoded → ℕ
-source_in (answer.Is (Short i) n) = i.source
-source_in (answer.Is (Dyadic i) n) = 0
-source_in (answer.Is (Monadic i) n) = 0
-source_in answer.Illegal = 0
-source_in (answer.Unimplemented v) = 0
-source_in answer.Truncated = 0
+source_in (Ok (Short i, n)) = i.source
+source_in (Ok (Dyadic i, n)) = 0
+source_in (Ok (Monadic i, n)) = 0
+source_in (Err answer.Illegal) = 0
+source_in (Err (answer.Unimplemented v)) = 0
+source_in (Err answer.Truncated) = 0
 
 abbrev pub decoded : List ℕ → Decoded
 decoded ps = decode_of (text_of ps)

@@ -1,15 +1,15 @@
 -- Wrong lists of what sets three and five parcels apart, and wrong answers of a decoder that looks at the form.
 -- Assumes nothing.
-use Rattle.std.specs.Prelude.{ℕ, zero, suc, ◌+◌, ◌*◌, ◌^◌, Bool, true, false, cond, ◌&&◌, List, [], ◌∷◌, T, length}
+use Rattle.std.specs.Prelude.{ℕ, zero, suc, ◌+◌, ◌*◌, ◌^◌, Bool, true, false, cond, ◌&&◌, List, [], ◌∷◌, T, length, Ok, Err}
 use Rattle.isa.specs.declared.Instruction.TheVariants.{Short, Dyadic, Monadic}
-use Rattle.isa.specs.declared.Decoded.{Decoded}
-use Rattle.isa.specs.declared.Decoded.TheVariants as answer
+use Rattle.isa.specs.declared.Undecoded.TheVariants as answer
 use Rattle.isa.specs.Decode.{decode_short, decode_dyadic, decode_monadic, decode_three, decode_wide, decode_prefixed, decode_bare, decode_of}
 use Rattle.isa.specs.Encode.{operand_raw}
 use Rattle.exec_spec.specs.Alu.{bit_digit}
 use Rattle.form_bit.specs.SetApart.{set_apart, is_set_apart, by_sign}
 use Rattle.witnesses.specs.Boards.{is, all}
 use Rattle.witnesses.specs.Decoding.{instruction_found, illegal, answer_number, decoded}
+use Rattle.isa.specs.Answers.{Decoded}
 
 -- ---- the list, sixteen parcels at a time
 
@@ -30,12 +30,12 @@ rows pre (h ∷ hs) right wrong = is (row_of pre h) right wrong && rows pre hs r
 -- ---- the value of a dyadic's source, a register's number too; 0 of any other answer
 
 abbrev pub source_value : Decoded → ℕ
-source_value (answer.Is (Short i) n) = 0
-source_value (answer.Is (Dyadic i) n) = operand_raw i.source
-source_value (answer.Is (Monadic i) n) = 0
-source_value answer.Illegal = 0
-source_value (answer.Unimplemented v) = 0
-source_value answer.Truncated = 0
+source_value (Ok (Short i, n)) = 0
+source_value (Ok (Dyadic i, n)) = operand_raw i.source
+source_value (Ok (Monadic i, n)) = 0
+source_value (Err answer.Illegal) = 0
+source_value (Err (answer.Unimplemented v)) = 0
+source_value (Err answer.Truncated) = 0
 
 unfoldable pub form_bits : List Bool
 form_bits =

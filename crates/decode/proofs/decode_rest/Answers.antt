@@ -1,12 +1,15 @@
-use Rattle.decode.proofs.RestLaws.{rest_none, rest_parcel, rest_wide}
 use Rattle.std.proofs.Common.{rules}
+use Rattle.decode.specs.Forms.{decode_rest}
 use Rattle.decode.proofs.decode_rest.Goals as goal
 
 pub returns-then-t-lt1 : goal.returns-then-t-lt1
-returns-then-t-lt1 c = search (rules, rest_none)
+unfolding decode_rest
+returns-then-t-lt1 c = search rules
 
 pub returns-then-form_bits-lt2 : goal.returns-then-form_bits-lt2
-returns-then-form_bits-lt2 c = search (rules, rest_parcel)
+unfolding decode_rest
+returns-then-form_bits-lt2 c = search rules
 
 pub returns-else-form_bits-lt2 : goal.returns-else-form_bits-lt2
-returns-else-form_bits-lt2 c = search (rules, rest_wide)
+unfolding decode_rest
+returns-else-form_bits-lt2 c = search rules

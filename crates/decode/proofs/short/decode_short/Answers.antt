@@ -1,6 +1,7 @@
-use Rattle.decode.proofs.ShortLaws.{short_is}
 use Rattle.std.proofs.Common.{rules}
+use Rattle.isa.specs.Decode.{decode_short}
 use Rattle.decode.proofs.short.decode_short.Goals as goal
 
 pub returns : goal.returns
-returns c = search (rules, short_is)
+unfolding decode_short
+returns c = search rules

@@ -1,6 +1,8 @@
-use Rattle.encode.proofs.WideLaws.{monadic_is}
 use Rattle.std.proofs.Common.{rules}
+use Rattle.isa.specs.Encode.{encode_monadic}
+use Rattle.encode.specs.Parts.{monadic_parcels}
 use Rattle.encode.proofs.monadic.encode_monadic.Goals as goal
 
 pub returns : goal.returns
-returns c = search (rules, monadic_is)
+unfolding encode_monadic monadic_parcels
+returns c = search rules

@@ -1,27 +1,23 @@
-use Rattle.exec.proofs.AttemptLaws.{answer_dispatched, answer_illegal}
+use Rattle.exec.proofs.AttemptLaws.{answer_dispatched, answer_illegal, none_dispatched, none_legal}
 use mathlib.Core.Path.{ap}
-use Rattle.isa.specs.declared.Decoded.{Decoded}
+use Rattle.std.proofs.Common.{rules}
 use Rattle.step_spec.specs.Step.{dispatch}
 use Rattle.access_spec.specs.Journal.{journaled}
 use Rattle.machine.specs.Status.{cpu}
 use Rattle.exec.proofs.attempt.act_on_answer.Goals as goal
+use Rattle.isa.specs.Answers.{Decoded}
 
-pub returns-in-Is : goal.returns-in-Is
-returns-in-Is c = let s = c.args in
+pub returns-in-Ok : goal.returns-in-Ok
+returns-in-Ok c = let s = c.args in
     answer_dispatched s.confined (cpu s.r.now s.q.now) s.a (journaled s.m.now s.journal.now) _ _
-    (ap (λ (x : Decoded). dispatch (cpu s.r.now s.q.now) x) c.in-Is.is) c.act_on.ensures
+    (ap (λ (x : Decoded). dispatch (cpu s.r.now s.q.now) x) c.in-Ok.is) c.act_on.ensures
 
-pub returns-in-Illegal : goal.returns-in-Illegal
-returns-in-Illegal c = let s = c.args in
+pub returns-in-Err-Unimplemented : goal.returns-in-Err-Unimplemented
+returns-in-Err-Unimplemented c = let s = c.args in
+    answer_dispatched s.confined (cpu s.r.now s.q.now) s.a (journaled s.m.now s.journal.now) _ _
+    (search (rules, none_dispatched)) c.act_unimplemented.ensures
+
+pub returns-in-Err-Illegal : goal.returns-in-Err-Illegal
+returns-in-Err-Illegal c = let s = c.args in
     answer_illegal s.confined s.r.now s.q.now s.a (journaled s.m.now s.journal.now) _ c.raised.ensures
-    (ap (λ (x : Decoded). dispatch (cpu s.r.now s.q.now) x) c.in-Illegal.is)
-
-pub returns-in-Unimplemented : goal.returns-in-Unimplemented
-returns-in-Unimplemented c = let s = c.args in
-    answer_dispatched s.confined (cpu s.r.now s.q.now) s.a (journaled s.m.now s.journal.now) _ _
-    (ap (λ (x : Decoded). dispatch (cpu s.r.now s.q.now) x) c.in-Unimplemented.is) c.act_unimplemented.ensures
-
-pub returns-in-Truncated : goal.returns-in-Truncated
-returns-in-Truncated c = let s = c.args in
-    answer_illegal s.confined s.r.now s.q.now s.a (journaled s.m.now s.journal.now) _ c.raised-in-Truncated.ensures
-    (ap (λ (x : Decoded). dispatch (cpu s.r.now s.q.now) x) c.in-Truncated.is)
+    (search (rules, none_legal))

@@ -1,6 +1,6 @@
-use Rattle.fast_decode.proofs.PlanLaws.{row_planned}
 use Rattle.std.proofs.Common.{rules}
+use Rattle.exec_rows.proofs.Laws.{formed_at}
 use Rattle.fast_decode.proofs.short.plan_row.Goals as goal
 
 pub returns : goal.returns
-returns c = search (rules, row_planned)
+returns c = search (rules, formed_at)

@@ -1,9 +1,11 @@
-use Rattle.fast_decode.proofs.PlanLaws.{wide_monadic, wide_dyadic}
 use Rattle.std.proofs.Common.{rules}
+use Rattle.isa.specs.Decode.{decode_wide, decode_three}
 use Rattle.fast_decode.proofs.wide.plan_wide.Goals as goal
 
 pub returns-then-is_monadic : goal.returns-then-is_monadic
-returns-then-is_monadic c = search (rules, wide_monadic)
+unfolding decode_wide decode_three
+returns-then-is_monadic c = search rules
 
 pub returns : goal.returns
-returns c = search (rules, wide_dyadic)
+unfolding decode_wide decode_three
+returns c = search rules

@@ -1,9 +1,0 @@
-use Rattle.decode_tables.proofs.Laws.{of_mode_law}
-use Rattle.isa.specs.Legal.{word_in_memory, double_word}
-use Rattle.isa.specs.declared.Mode.{Mode}
-use mathlib.Core.Bool.{◌||◌}
-use Rattle.std.proofs.Common.{rules}
-use Rattle.decode_tables.proofs.legal.multiple_destination.Goals as goal
-
-pub returns-in-General : goal.returns-in-General
-returns-in-General c = search (rules, of_mode_law (λ (m : Mode). word_in_memory m || double_word m))

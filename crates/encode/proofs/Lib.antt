@@ -1,5 +1,0 @@
-mod ShortLaws
-mod OperandLaws
-mod MonadicLaws
-mod WideLaws
-mod EncodeLaws

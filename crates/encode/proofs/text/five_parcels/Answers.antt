@@ -1,7 +1,0 @@
-use Rattle.encode.proofs.text.five_parcels.Goals as goal
-
-pub returns-then-prefix : goal.returns-then-prefix
-returns-then-prefix c = rw c.if-prefix.true
-
-pub returns-else-prefix : goal.returns-else-prefix
-returns-else-prefix c = rw c.if-prefix.false
