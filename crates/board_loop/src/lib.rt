@@ -24,7 +24,12 @@ fn more_input(rt: &HostRuntime, s: LoopState, block: &mut [u8]) -> Result<Option
 }
 
 // Until the input ends, or a read or a write fails.
-fn converse_all(rt: &HostRuntime, memory: &mut [u8], block: &mut [u8], printout: &mut Printout) -> Result<(), Failed> {
+fn converse_all(
+    rt: &HostRuntime,
+    memory: &mut [u8],
+    block: &mut [u8],
+    printout: &mut Printout,
+) -> Result<(), Failed> {
     let mut quads = start_cache();
     let mut bank = start_bank();
     let mut s = begin();
