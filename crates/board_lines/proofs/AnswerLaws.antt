@@ -1,9 +1,11 @@
 -- The lines that are printed, part after part.
 -- Assumes nothing.
-use Rattle.std.proofs.Common.{◌≡◌, ℕ, ◌+◌, Bool, true, false, leb, [], ◌∷◌, ◌++◌, length, sym, refl, ap, ◌∙◌, arith, leb-true}
+use Rattle.std.proofs.Common.{◌≡◌, ℕ, ◌+◌, ◌-◌, ◌≤◌, Bool, true, false, leb, List, [], ◌∷◌, ◌++◌, length, sym, refl, ap, ◌∙◌, arith, leb-true}
+use Rattle.std.proofs.lemmas.List.{take_all}
+use borrow.Rule.Slice.PartMut.{put_mid}
 use Rattle.hex_digits.specs.Digits.{digits}
-use Rattle.hex_digits.specs.Output.{Output, printed}
-use Rattle.hex_digits.proofs.OutputLaws.{on_printed, left_out}
+use Rattle.hex_digits.specs.Output.{Output, output, written, printed}
+use Rattle.hex_digits.proofs.OutputLaws.{length_written, copied, on_printed, room_printed, left_out, printed_front}
 use Rattle.board_lines.specs.Answers.{refused_line, ran_line}
 use Rattle.board_lines.specs.Totals.{totals_line}
 use Rattle.board_lines.specs.Printouts.{Tally, totals_at, printout, totalled, refusal_added, run_added, tallied}
@@ -33,18 +35,11 @@ module _ (o : Output) (t : Bool) where
 
   -- 83
   module _ (k : Tally) (n a b c d : ℕ) (g : t ≡ leb (o.place + 31) (length o.bytes)) where
-    pub ran_put : (u v w x y z e : Output) (m : Tally) → t ≡ true → u ≡ printed (digits 2 0x83) o → v ≡ printed (digits 8 n) u
-        → w ≡ printed (digits 2 a) v → x ≡ printed (digits 2 b) w → y ≡ printed (digits 8 c) x → z ≡ printed (digits 8 d) y
-        → e ≡ printed (10 ∷ []) z → m ≡ run_added n a k → printout e m ≡ tallied (ran_line n a b c d) (printout o k)
-    ran_put u v w x y z e m h f₁ f₂ f₃ f₄ f₅ f₆ f₇ f₈ =
-        let i = leb-true _ _ (sym g ∙ h) in
-        let q = on_printed (digits 2 0x83) (digits 8 n) o u v 2 8 refl refl (omega (arith, i)) f₁ f₂ in
-        let q = on_printed (digits 2 0x83 ++ digits 8 n) (digits 2 a) o v w 10 2 refl refl (omega (arith, i)) q f₃ in
-        let q = on_printed (digits 2 0x83 ++ digits 8 n ++ digits 2 a) (digits 2 b) o w x 12 2 refl refl (omega (arith, i)) q f₄ in
-        let q = on_printed (digits 2 0x83 ++ digits 8 n ++ digits 2 a ++ digits 2 b) (digits 8 c) o x y 14 8 refl refl (omega (arith, i)) q f₅ in
-        let q = on_printed (digits 2 0x83 ++ digits 8 n ++ digits 2 a ++ digits 2 b ++ digits 8 c) (digits 8 d) o y z 22 8 refl refl (omega (arith, i)) q f₆ in
-        let q = on_printed (digits 2 0x83 ++ digits 8 n ++ digits 2 a ++ digits 2 b ++ digits 8 c ++ digits 8 d) (10 ∷ []) o z e 30 1 refl refl (omega (arith, i)) q f₇ in
-        tallied_whole (ran_line n a b c d) (printout o k) 31 t refl g e m h q (f₈ ∙ sym (ran_added n a b c d k))
+    pub ran_put : (y x : List ℕ) (m : Tally) → t ≡ true → y ≡ ran_line n a b c d → x ≡ put_mid o.place (o.place + 31 - o.place) o.bytes y
+        → m ≡ run_added n a k → printout (output x (o.place + 31)) m ≡ tallied (ran_line n a b c d) (printout o k)
+    ran_put y x m h e f l =
+        let s = ran_line n a b c d in
+        tallied_whole s (printout o k) 31 t refl g _ m h (copied s o.bytes y x o.place t g h e f) (l ∙ sym (ran_added n a b c d k))
 
     pub ran_left : t ≡ false → printout o k ≡ tallied (ran_line n a b c d) (printout o k)
     ran_left h = tallied_left (ran_line n a b c d) (printout o k) 31 t refl g h
@@ -64,3 +59,30 @@ module _ (o : Output) (t : Bool) where
 
     pub totals_left : t ≡ false → printout o k ≡ totalled (printout o k)
     totals_left h = ap (λ (s : Output). printout s k) (left_out (totals_line (totals_at k)) o.bytes o.place 27 t refl g h)
+
+-- ---- a line by itself
+
+-- a text put into a buffer of its size is what it holds then
+filled : (t o : List ℕ) (e : Output) → length t ≡ length o → e ≡ printed t (output o 0) → e.bytes ≡ t
+filled t o e h g =
+    let k : 0 + length t ≤ length o = omega (arith, h) in
+    let q : e.bytes ≡ written o 0 t = ap (λ (x : Output). x.bytes) (g ∙ room_printed t o 0 k) in
+    let z : length (written o 0 t) ≡ length t = length_written t o 0 ∙ sym h in
+    q ∙ sym (take_all (0 + length t) (written o 0 t) (omega (arith, z))) ∙ printed_front t o (omega (arith, h))
+
+pub ran_filled : (n a b c d : ℕ) (o : List ℕ) (u v w x y z e : Output) → length o ≡ 31 → u ≡ printed (digits 2 0x83) (output o 0)
+    → v ≡ printed (digits 8 n) u → w ≡ printed (digits 2 a) v → x ≡ printed (digits 2 b) w → y ≡ printed (digits 8 c) x
+    → z ≡ printed (digits 8 d) y → e ≡ printed (10 ∷ []) z → e.bytes ≡ ran_line n a b c d
+ran_filled n a b c d o u v w x y z e i f₁ f₂ f₃ f₄ f₅ f₆ f₇ =
+    let s : Output = output o 0 in
+    let q = on_printed (digits 2 0x83) (digits 8 n) s u v 2 8 refl refl (omega (arith, i)) f₁ f₂ in
+    let q = on_printed (digits 2 0x83 ++ digits 8 n) (digits 2 a) s v w 10 2 refl refl (omega (arith, i)) q f₃ in
+    let q = on_printed (digits 2 0x83 ++ digits 8 n ++ digits 2 a) (digits 2 b) s w x 12 2 refl refl (omega (arith, i)) q f₄ in
+    let q = on_printed (digits 2 0x83 ++ digits 8 n ++ digits 2 a ++ digits 2 b) (digits 8 c) s x y 14 8 refl refl (omega (arith, i)) q f₅ in
+    let q = on_printed (digits 2 0x83 ++ digits 8 n ++ digits 2 a ++ digits 2 b ++ digits 8 c) (digits 8 d) s y z 22 8 refl refl (omega (arith, i)) q f₆ in
+    let q = on_printed (digits 2 0x83 ++ digits 8 n ++ digits 2 a ++ digits 2 b ++ digits 8 c ++ digits 8 d) (10 ∷ []) s z e 30 1 refl refl (omega (arith, i)) q f₇ in
+    filled (ran_line n a b c d) o e (sym i) q
+
+-- what a lender holds when the loan that it gave has ended with the same reference
+pub on_loan : {G : Type 0} {g h : G} {s t : List ℕ} → g ≡ h → s ≡ t → (x : List ℕ) → (g ≡ h → x ≡ s) → x ≡ t
+on_loan e f x k = k e ∙ f

@@ -1,5 +1,5 @@
 // The lines that are printed and counted; a line for which there is no room is left out.
-ghost use Rattle.std.specs.Prelude.{◌≡◌};
+ghost use Rattle.std.specs.Prelude.{◌≡◌, length};
 ghost use Rattle.refusals.specs.Numbers.{number_of, refusal_of};
 ghost use Rattle.hex_digits.specs.Output.{contents, printed};
 ghost use Rattle.board_lines.specs.Answers.{refused_line, unless_done, ran_line};
@@ -35,6 +35,24 @@ pub fn put_refusal(output: &mut Output, refusal: Refusal, line: u32)
     }
 }
 
+// The 83 line of a run, into a buffer of its size: there the compiler knows that each part has room.
+fn write_ran(out: &mut [u8], steps: u32, stop: u32, code: u32, pc: u32, psw: u32)
+    requires { length out.old ≡ 31 }
+    ensures { out.new ≡ ran_line steps stop code pc psw }
+{
+    let mut line = Output {
+        buffer: out,
+        place: 0,
+    };
+    line.put_digits(2, RAN_KIND);
+    line.put_digits(8, steps);
+    line.put_digits(2, stop);
+    line.put_digits(2, code);
+    line.put_digits(8, pc);
+    line.put_digits(8, psw);
+    line.put_byte(b'\n');
+}
+
 impl Printout<'_> {
     // The 82 line of a refusal and a line's number.
     pub fn put_refused(&mut self, refusal: Refusal, line: u32)
@@ -64,13 +82,17 @@ impl Printout<'_> {
         ensures text { printout_of self.new ≡ tallied (ran_line steps stop code pc psw) (printout_of self.old) }
     {
         if self.output.has_room(RAN_SIZE) {
-            self.output.put_digits(2, RAN_KIND);
-            self.output.put_digits(8, steps);
-            self.output.put_digits(2, stop);
-            self.output.put_digits(2, code);
-            self.output.put_digits(8, pc);
-            self.output.put_digits(8, psw);
-            self.output.put_byte(b'\n');
+            let place = self.output.place;
+            let end = place + RAN_SIZE;
+            write_ran(
+                &mut self.output.buffer[place..end],
+                steps,
+                stop,
+                code,
+                pc,
+                psw,
+            );
+            self.output.place = end;
             self.tally.add_run(steps, stop);
         }
     }
