@@ -62,10 +62,16 @@ fn source_field(mode: FieldMode, p: u16) -> u32
 {
     match mode {
         FieldMode::Absent => 0,
-        FieldMode::Imm5 | FieldMode::Uimm5 | FieldMode::Wai5 | FieldMode::Stk5 | FieldMode::Istk5 =>
-            middle(p),
-        FieldMode::Imm10 | FieldMode::Pcrel10 => short_operands(p as u32),
-        FieldMode::Stk8 | FieldMode::Fill8 => low(p as u32, 8),
+        // an arm for each: joined, here and in isa, they cost ten instructions a step
+        FieldMode::Imm5 => middle(p),
+        FieldMode::Uimm5 => middle(p),
+        FieldMode::Wai5 => middle(p),
+        FieldMode::Stk5 => middle(p),
+        FieldMode::Istk5 => middle(p),
+        FieldMode::Imm10 => short_operands(p as u32),
+        FieldMode::Pcrel10 => short_operands(p as u32),
+        FieldMode::Stk8 => low(p as u32, 8),
+        FieldMode::Fill8 => low(p as u32, 8),
     }
 }
 

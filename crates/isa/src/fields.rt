@@ -14,7 +14,11 @@ pub fn field_value(mode: FieldMode, f: u32) -> u32
         FieldMode::Absent => 0,
         FieldMode::Imm5 => extend(27, f),
         FieldMode::Uimm5 => f,
-        FieldMode::Wai5 | FieldMode::Stk5 | FieldMode::Istk5 | FieldMode::Imm10 => f << 2,
+        // an arm for each: joined, here and in decode, they cost ten instructions a step
+        FieldMode::Wai5 => f << 2,
+        FieldMode::Stk5 => f << 2,
+        FieldMode::Istk5 => f << 2,
+        FieldMode::Imm10 => f << 2,
         FieldMode::Pcrel10 => extend(21, f << 1),
         FieldMode::Stk8 => f << 4,
         FieldMode::Fill8 => plus(f << 4, 0xFFFF_F000),
