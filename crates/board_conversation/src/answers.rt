@@ -9,7 +9,7 @@ ghost use Rattle.board_conversation.specs.Blocks.{is_long_run, line_answered, an
 
 use board_lines::frames::parse;
 use board_lines::stores::store;
-use board_lines::{Frame, Printout};
+use board_lines::{Frame, Printer};
 use machine::assign::set_register;
 use machine::places::{PC, PSW};
 use machine::{Bank, Quads};
@@ -25,7 +25,7 @@ fn answer_run(
     confined: bool,
     budget: u32,
     level: u32,
-    printout: &mut Printout,
+    printout: &mut Printer,
 )
     ensures lent { printout.new.output.buffer.ghost_name ≡ printout.old.output.buffer.ghost_name }
     ensures text { exit_io m q r printout ≡ printed_on (has_run (run_of confined budget level (entry_board m q r))) (printout_of printout.old) }
@@ -42,7 +42,7 @@ fn answer_frame(
     m: &mut [u8],
     q: &mut Quads,
     r: &mut Bank,
-    printout: &mut Printout,
+    printout: &mut Printer,
 )
     ensures lent { printout.new.output.buffer.ghost_name ≡ printout.old.output.buffer.ghost_name }
     ensures text { exit_io m q r printout ≡ printed_on (frame_answer number line.now (entry_board m q r) frame) (printout_of printout.old) }
@@ -76,7 +76,7 @@ pub fn answer_line(
     m: &mut [u8],
     q: &mut Quads,
     r: &mut Bank,
-    printout: &mut Printout,
+    printout: &mut Printer,
 ) -> bool
     ensures lent { printout.new.output.buffer.ghost_name ≡ printout.old.output.buffer.ghost_name }
     ensures text { line_answered (exit_io m q r printout) result ≡ answered_unless begun number line.now (entry_io m q r printout) }

@@ -5,7 +5,7 @@ ghost use Rattle.board_conversation.specs.Code.{entry_io, exit_io};
 
 use crate::BlockResult;
 use crate::answers::answer_line;
-use board_lines::Printout;
+use board_lines::Printer;
 use lines::newline_from;
 use machine::{Bank, Quads};
 
@@ -16,7 +16,7 @@ pub fn answer_block(
     m: &mut [u8],
     q: &mut Quads,
     r: &mut Bank,
-    printout: &mut Printout,
+    printout: &mut Printer,
 ) -> BlockResult
     ensures lent { printout.new.output.buffer.ghost_name ≡ printout.old.output.buffer.ghost_name }
     ensures text { block_answered (exit_io m q r printout) result.last result.rest result.more ≡ block_on number text.now (entry_io m q r printout) }

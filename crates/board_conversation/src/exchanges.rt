@@ -8,7 +8,7 @@ ghost use Rattle.board_conversation.specs.Code.{cleared_io, exit_io};
 use crate::LoopState;
 use crate::answers::answer_line;
 use crate::blocks::answer_block;
-use board_lines::Printout;
+use board_lines::Printer;
 use lines::carry;
 use machine::{Bank, Quads};
 
@@ -36,7 +36,7 @@ pub fn converse(
     m: &mut [u8],
     q: &mut Quads,
     r: &mut Bank,
-    printout: &mut Printout,
+    printout: &mut Printer,
 ) -> LoopState
     ensures lent { printout.new.output.buffer.ghost_name ≡ printout.old.output.buffer.ghost_name }
     ensures text { exchange (exit_io m q r printout) result.last (drop result.from (take result.end block.new)) result.more
@@ -70,7 +70,7 @@ pub fn finish(
     m: &mut [u8],
     q: &mut Quads,
     r: &mut Bank,
-    printout: &mut Printout,
+    printout: &mut Printer,
 )
     ensures lent { printout.new.output.buffer.ghost_name ≡ printout.old.output.buffer.ghost_name }
     ensures text { exit_io m q r printout

@@ -7,7 +7,7 @@ use Rattle.lines.specs.Texts.{lines_of}
 use Rattle.board_lines.specs.Answers.{steps_place, refused_stop}
 use Rattle.board_lines.specs.Totals.{Totals, totals, totals_line, is_run_line, is_refused}
 pub use Rattle.board_lines.specs.declared.Tally.{Tally}
-use Rattle.board_lines.specs.declared.Printout.{Printout as LentPrintout}
+use Rattle.board_lines.specs.declared.Printer.{Printer}
 
 abbrev pub totals_at : Tally → Totals
 totals_at k = totals k.runs k.steps k.refused
@@ -52,7 +52,7 @@ abbrev pub printout : Output → Tally → Printout
 printout o k = record { output = o; tally = k }
 
 -- what the code lends and keeps
-abbrev pub printout_of : LentPrintout → Printout
+abbrev pub printout_of : Printer → Printout
 printout_of p = printout (contents p.output) p.tally
 
 -- a text printed and its lines counted; one for which there is no room is left out and not counted

@@ -5,11 +5,11 @@ ghost use Rattle.hex_digits.specs.Output.{contents, printed};
 ghost use Rattle.board_lines.specs.Answers.{refused_line, unless_done, ran_line};
 ghost use Rattle.board_lines.specs.Printouts.{printout_of, tallied, totalled};
 
-use crate::Printout;
-use hex_digits::Output;
+use crate::Printer;
+use hex_digits::Writer;
 use refusals::Refusal;
 
-// The kinds of lines, and their bytes with the newline.
+// The kinds of lines, and their bytes with the newline. A kind is two digits that are printed, so it stays a number.
 const REFUSED_KIND: u32 = 0x82;
 
 const REFUSED_SIZE: usize = 13;
@@ -23,7 +23,7 @@ const TOTALS_KIND: u32 = 0x8F;
 const TOTALS_SIZE: usize = 27;
 
 // The 82 line of a refusal and a line's number, where nothing is counted.
-pub fn put_refusal(output: &mut Output, refusal: Refusal, line: u32)
+pub fn put_refusal(output: &mut Writer, refusal: Refusal, line: u32)
     ensures lent { output.new.buffer.ghost_name ≡ output.old.buffer.ghost_name }
     ensures text { contents output.new ≡ printed (refused_line (number_of refusal) line) (contents output.old) }
 {
@@ -40,7 +40,7 @@ fn write_ran(out: &mut [u8], steps: u32, stop: u32, code: u32, pc: u32, psw: u32
     requires { length out.old ≡ 31 }
     ensures { out.new ≡ ran_line steps stop code pc psw }
 {
-    let mut line = Output {
+    let mut line = Writer {
         buffer: out,
         place: 0,
     };
@@ -53,7 +53,7 @@ fn write_ran(out: &mut [u8], steps: u32, stop: u32, code: u32, pc: u32, psw: u32
     line.put_byte(b'\n');
 }
 
-impl Printout<'_> {
+impl Printer<'_> {
     // The 82 line of a refusal and a line's number.
     pub fn put_refused(&mut self, refusal: Refusal, line: u32)
         ensures lent { self.new.output.buffer.ghost_name ≡ self.old.output.buffer.ghost_name }

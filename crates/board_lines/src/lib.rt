@@ -6,7 +6,7 @@ pub mod frames;
 pub mod stores;
 pub mod totals;
 
-use hex_digits::Output;
+use hex_digits::Writer;
 
 // Runs, steps and refused lines, of all lines printed so far.
 #[derive(Clone, Copy, PartialEq, Eq, Debug)]
@@ -18,8 +18,8 @@ pub struct Tally {
 
 // Where lines are printed, and what they sum to.
 #[derive(Drop)]
-pub struct Printout<'a> {
-    pub output: Output<'a>,
+pub struct Printer<'a> {
+    pub output: Writer<'a>,
     pub tally: Tally,
 }
 

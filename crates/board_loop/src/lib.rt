@@ -3,9 +3,9 @@
 // the conversation (`board_conversation::exchanges`), and writes what that answered; no contract can say what is read or written.
 use board_conversation::LoopState;
 use board_conversation::exchanges::{begin, converse, finish};
-use board_lines::{Printout, Tally};
+use board_lines::{Printer, Tally};
 use channels::{Failed, receive, send};
-use hex_digits::Output;
+use hex_digits::Writer;
 use machine::record::{start_bank, start_cache};
 
 const BLOCK: usize = 32768;
@@ -28,7 +28,7 @@ fn converse_all(
     rt: &HostRuntime,
     memory: &mut [u8],
     block: &mut [u8],
-    printout: &mut Printout,
+    printout: &mut Printer,
 ) -> Result<(), Failed> {
     let mut quads = start_cache();
     let mut bank = start_bank();
@@ -49,8 +49,8 @@ fn converse_all(
 pub fn serve(rt: &HostRuntime, memory: &mut [u8]) {
     let mut block = [0u8; BLOCK];
     let mut buffer = [0u8; ROOM];
-    let mut printout = Printout {
-        output: Output {
+    let mut printout = Printer {
+        output: Writer {
             buffer: &mut buffer,
             place: 0,
         },

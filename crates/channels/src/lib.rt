@@ -4,7 +4,7 @@
 mod failures;
 
 use crate::failures::report;
-use hex_digits::Output;
+use hex_digits::Writer;
 use std::io::{Error, ErrorKind, Read, Write};
 use std::thread::sleep;
 use std::time::Duration;
@@ -52,7 +52,7 @@ pub fn receive(rt: &HostRuntime, block: &mut [u8], end: usize) -> Result<Option<
 }
 
 // Writes what was printed. `write_all` would not wait.
-pub fn send(rt: &HostRuntime, output: &Output) -> Result<(), Failed> {
+pub fn send(rt: &HostRuntime, output: &Writer) -> Result<(), Failed> {
     let mut left = output.buffer.get(..output.place).ok_or(Failed)?;
     for _ in 0..u64::MAX {
         if left.is_empty() {

@@ -1,7 +1,7 @@
 -- Output: a lent buffer and the place of the next byte.
 -- Assumes nothing.
 use Rattle.std.specs.Prelude.{ℕ, suc, ◌+◌, Bool, cond, List, [], ◌∷◌, length, set, leb}
-use Rattle.hex_digits.specs.declared.Output.{Output as LentOutput}
+use Rattle.hex_digits.specs.declared.Writer.{Writer}
 
 abbrev pub newline : ℕ
 newline = 10
@@ -26,5 +26,5 @@ unfoldable pub printed : List ℕ → Output → Output
 printed t o = cond (has_room t o) (output (written o.bytes o.place t) (o.place + length t)) o
 
 -- what is lent and printed to
-abbrev pub contents : LentOutput → Output
+abbrev pub contents : Writer → Output
 contents o = output o.buffer.now o.place

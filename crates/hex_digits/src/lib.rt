@@ -6,7 +6,7 @@ ghost use Rattle.hex_digits.specs.Output.{written, printed, contents};
 
 // A lent buffer, and the place of the next byte.
 #[derive(Drop)]
-pub struct Output<'a> {
+pub struct Writer<'a> {
     pub buffer: &'a mut [u8],
     pub place: usize,
 }
@@ -33,7 +33,7 @@ fn store_digits(out: &mut [u8], at: usize, count: usize, x: u32)
     }
 }
 
-impl Output<'_> {
+impl Writer<'_> {
     // Whether there is room for so many bytes more.
     pub fn has_room(&self, size: usize) -> bool
         ensures { result ≡ leb (self.now.place + size) (length self.now.buffer.now) }

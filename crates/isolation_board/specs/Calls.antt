@@ -17,7 +17,7 @@ use Rattle.hobbit.specs.declared.HobbitAnswer.{HobbitAnswer}
 use Rattle.hobbit.specs.Blocks.{Blocks}
 use Rattle.hobbit.specs.contracts.hobbit_run as hobbit_run
 use Rattle.hobbit.proofs.hobbit_run.Reads as hobbit_run_contract
-use Rattle.board_lines.specs.declared.Printout.{Printout as LentPrintout}
+use Rattle.board_lines.specs.declared.Printer.{Printer}
 use Rattle.board_lines.specs.Printouts.{Printout}
 use Rattle.board_conversation.specs.declared.LoopState.{LoopState}
 use Rattle.board_conversation.specs.contracts.exchanges.converse as converse
@@ -95,17 +95,17 @@ pub record LentBoard : Type 0 where
   pub printout : Printout
 
 -- a printout of the code, with its buffer lent
-abbrev pub lent_printout : ExchangePlaces → Printout → LentPrintout
+abbrev pub lent_printout : ExchangePlaces → Printout → Printer
 lent_printout p o =
     record { output = record { buffer = lent_at p.buffer o.output.bytes; place = o.output.place }; tally = o.tally }
 
-abbrev pub lent_to : ExchangePlaces → LentBoard → MutBor Memory × (MutBor Cache × (MutBor Bank × (MutBor LentPrintout × Unit {0})))
+abbrev pub lent_to : ExchangePlaces → LentBoard → MutBor Memory × (MutBor Cache × (MutBor Bank × (MutBor Printer × Unit {0})))
 lent_to p s =
     let cache = lent_at p.cache s.machine.cache in
     let bank = lent_at p.bank s.machine.bank in
     (lent_at p.memory s.memory, (cache, (bank, (lent_at p.printout (lent_printout p s.printout), tt))))
 
-abbrev pub left_by : ExchangePlaces → LentBoard → Memory × (Cache × (Bank × (LentPrintout × Unit {0})))
+abbrev pub left_by : ExchangePlaces → LentBoard → Memory × (Cache × (Bank × (Printer × Unit {0})))
 left_by p s = (s.memory, (s.machine.cache, (s.machine.bank, (lent_printout p s.printout, tt))))
 
 -- an exchange of the loop: what it was given beside them, its answer, and what it left

@@ -8,7 +8,7 @@ ghost use Rattle.parcels_listing.specs.Portions.{portion, portion_of};
 
 use decode::decode;
 use decode::fields::{short_opcode, short_operands};
-use hex_digits::Output;
+use hex_digits::Writer;
 use isa::{Decoded, Undecoded};
 use word::fields::form_bits;
 
@@ -19,7 +19,7 @@ pub const PARCEL_COUNT: u32 = 0x10000;
 const LINE_SIZE: usize = 10;
 
 // After a portion of the list: the parcel that the next one begins with, PARCEL_COUNT where nothing is left. The first `place`
-// bytes of the buffer are to be written.
+// bytes of the buffer are to be written. Theorem Printing speaks of both numbers.
 #[derive(Clone, Copy)]
 pub struct ListState {
     pub next: u32,
@@ -46,7 +46,7 @@ fn put_line(out: &mut [u8], at: usize, p: u32)
     requires { at + line_size ≤ length out.old }
     ensures { out.new ≡ written out.old at (parcel_line p) }
 {
-    let mut line = Output {
+    let mut line = Writer {
         buffer: out,
         place: at,
     };

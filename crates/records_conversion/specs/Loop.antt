@@ -3,7 +3,7 @@
 use Rattle.std.specs.Prelude.{ℕ, ◌+◌, ◌*◌, Bool, true, false, cond, List, [], ◌∷◌, length, take, drop, ◌==◌, Result, Ok, Err}
 use Rattle.refusals.specs.declared.Refusal.{Refusal}
 use Rattle.hex_digits.specs.Output.{Output, output, printed}
-use Rattle.hex_digits.specs.declared.Output.{Output as LentOutput}
+use Rattle.hex_digits.specs.declared.Writer.{Writer}
 use Rattle.lines.specs.Texts.{lines_text, next, ended_lines, size_of}
 use Rattle.board_lines.specs.Answers.{refused_line}
 use Rattle.records_lines.specs.Conversions.{LineConverted}
@@ -64,7 +64,7 @@ abbrev pub exchange_done : Progress → List ℕ → ExchangeDone
 exchange_done p t = record { progress = p; kept = t }
 
 -- what is lent, to be filled from its start
-abbrev pub from_start : LentOutput → Output
+abbrev pub from_start : Writer → Output
 from_start o = output o.buffer.now 0
 
 -- on the bytes that are there

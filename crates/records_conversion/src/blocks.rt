@@ -8,14 +8,14 @@ ghost use Rattle.records_conversion.specs.Loop.{progress, line_done, block_done,
 
 use crate::Way;
 use board_lines::answers::put_refusal;
-use hex_digits::Output;
+use hex_digits::Writer;
 use lines::newline_from;
 use records_lines::frames::convert_frame;
 use records_lines::records::convert_record;
 use refusals::Refusal;
 
 // Either way.
-fn convert_either(way: Way, line: &[u8], output: &mut Output) -> Result<(), Refusal>
+fn convert_either(way: Way, line: &[u8], output: &mut Writer) -> Result<(), Refusal>
     ensures lent { output.new.buffer.ghost_name ≡ output.old.buffer.ghost_name }
     ensures text { line_output (refusal_of result) (contents output.new)
         ≡ output_of (converted_by way line.now) (contents output.old) }
@@ -31,7 +31,7 @@ pub fn convert_line(
     way: Way,
     line: &[u8],
     last: &mut u32,
-    output: &mut Output,
+    output: &mut Writer,
 ) -> Result<(), Refusal>
     ensures lent { output.new.buffer.ghost_name ≡ output.old.buffer.ghost_name }
     ensures text { progress (contents output.new) last.new (is_err result)
@@ -50,7 +50,7 @@ pub fn convert_block(
     way: Way,
     text: &[u8],
     last: &mut u32,
-    output: &mut Output,
+    output: &mut Writer,
 ) -> Result<usize, Refusal>
     ensures lent { output.new.buffer.ghost_name ≡ output.old.buffer.ghost_name }
     ensures text { block_done (progress (contents output.new) last.new (is_err result)) (rest_by text.now result)
@@ -58,6 +58,7 @@ pub fn convert_block(
 {
     let mut from = 0;
     let mut to = newline_from(text, 0);
+    // From newline to newline: a `for` over the lines would have to find them too, and is no plainer.
     while to < text.len() {
         convert_line(way, &text[from..to], last, output)?;
         from = to + 1;

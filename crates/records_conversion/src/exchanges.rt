@@ -6,7 +6,7 @@ ghost use Rattle.records_conversion.specs.Loop.{progress, lines_done, exchange_d
 
 use crate::blocks::{convert_block, convert_line};
 use crate::{ConversionState, Way};
-use hex_digits::Output;
+use hex_digits::Writer;
 use lines::carry;
 use refusals::Refusal;
 
@@ -28,7 +28,7 @@ impl ConversionState {
         way: Way,
         end: usize,
         block: &mut [u8],
-        output: &mut Output,
+        output: &mut Writer,
     ) -> Result<(), Refusal>
         ensures lent { output.new.buffer.ghost_name ≡ output.old.buffer.ghost_name }
         ensures text { exchange_done (progress (contents output.new) self.new.last (is_err result)) (take self.new.end block.new)
@@ -42,7 +42,7 @@ impl ConversionState {
     }
 
     // At the end of input: the last line may have no newline. What it gives fills the buffer from its start.
-    pub fn finish(&mut self, way: Way, block: &[u8], output: &mut Output)
+    pub fn finish(&mut self, way: Way, block: &[u8], output: &mut Writer)
         ensures lent { output.new.buffer.ghost_name ≡ output.old.buffer.ghost_name }
         ensures text { contents output.new
             ≡ (lines_done way (last_line (take self.old.end block.now)) (progress (from_start output.old) self.old.last false)).output }

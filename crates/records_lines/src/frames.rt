@@ -9,14 +9,14 @@ ghost use Rattle.records_lines.specs.Conversions.{store_record, frame_converted,
 use crate::sums::checksum;
 use board_lines::Frame;
 use board_lines::frames::parse;
-use hex_digits::Output;
+use hex_digits::Writer;
 use refusals::Refusal;
 
 // What a record has more than its frame, with the newline.
 const RECORD_MORE: usize = 5;
 
 // A record and its newline; left out where there is no room.
-fn put_record(output: &mut Output, frame: &[u8])
+fn put_record(output: &mut Writer, frame: &[u8])
     requires { (is_length (length frame.now) ≡ true) × (all_digits frame.now ≡ true) }
     ensures lent { output.new.buffer.ghost_name ≡ output.old.buffer.ghost_name }
     ensures text { contents output.new ≡ printed (store_record frame.now ++ newline ∷ []) (contents output.old) }
@@ -34,7 +34,7 @@ fn put_record(output: &mut Output, frame: &[u8])
 }
 
 // A line of frames: its record, left out where there is no room; or a refusal, and the output as it was.
-pub fn convert_frame(line: &[u8], output: &mut Output) -> Result<(), Refusal>
+pub fn convert_frame(line: &[u8], output: &mut Writer) -> Result<(), Refusal>
     ensures lent { output.new.buffer.ghost_name ≡ output.old.buffer.ghost_name }
     ensures text { line_output (refusal_of result) (contents output.new)
         ≡ output_of (frame_converted line.now) (contents output.old) }

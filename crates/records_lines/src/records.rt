@@ -9,7 +9,7 @@ ghost use Rattle.records_lines.specs.Conversions.{store_frame, frames_of, record
 
 use crate::sums::checksum;
 use board_lines::digits::{all_digits, byte_of, byte_of_digits, number_of};
-use hex_digits::Output;
+use hex_digits::Writer;
 use refusals::Refusal;
 
 // S, type and count: what the count does not count.
@@ -102,7 +102,7 @@ fn address_of(digits: &[u8]) -> u32
 }
 
 // A frame and its newline.
-fn put_frame(output: &mut Output, address: u32, digits: &[u8])
+fn put_frame(output: &mut Writer, address: u32, digits: &[u8])
     requires { output.old.place + length digits.now + 11 ≤ length output.old.buffer.now }
     ensures lent { output.new.buffer.ghost_name ≡ output.old.buffer.ghost_name }
     ensures text { contents output.new ≡ printed (store_frame address digits.now ++ newline ∷ []) (contents output.old) }
@@ -114,7 +114,7 @@ fn put_frame(output: &mut Output, address: u32, digits: &[u8])
 }
 
 // All frames of data; left out where there is no room for them all.
-fn put_frames(output: &mut Output, address: u32, bytes: &[u8])
+fn put_frames(output: &mut Writer, address: u32, bytes: &[u8])
     ensures lent { output.new.buffer.ghost_name ≡ output.old.buffer.ghost_name }
     ensures text { contents output.new ≡ printed (lines_text (frames_of address bytes.now)) (contents output.old) }
 {
@@ -137,7 +137,7 @@ fn is_data_type(kind: u8) -> bool
 }
 
 // A line of records: its frames, left out where there is no room for them all; or a refusal, and the output as it was.
-pub fn convert_record(line: &[u8], output: &mut Output) -> Result<(), Refusal>
+pub fn convert_record(line: &[u8], output: &mut Writer) -> Result<(), Refusal>
     ensures lent { output.new.buffer.ghost_name ≡ output.old.buffer.ghost_name }
     ensures text { line_output (refusal_of result) (contents output.new)
         ≡ output_of (record_converted line.now) (contents output.old) }

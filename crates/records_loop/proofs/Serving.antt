@@ -11,7 +11,7 @@ use Rattle.std.specs.Prelude.{Result, Ok, Err, is_err, ⊤}
 use Rattle.std.specs.Borrow.{Bor, MutBor}
 use Rattle.refusals.specs.declared.Refusal.{Refusal}
 use Rattle.refusals.specs.declared.Refusal.TheVariants.{MalformedRecord}
-use Rattle.hex_digits.specs.declared.Output.{Output as LentOutput}
+use Rattle.hex_digits.specs.declared.Writer.{Writer}
 use Rattle.word.proofs.CaseLaws.{by_test}
 use Rattle.hex_digits.specs.Output.{Output, output, contents, written}
 use Rattle.hex_digits.proofs.OutputLaws.{length_written, printed_front}
@@ -164,7 +164,7 @@ conversion_serves ls ref w o input h g =
     shared_at : List ℕ → Bor (List ℕ)
     shared_at t = record { ref_ptr = ref.ref_ptr; now = t }
 
-    lent : Output → LentOutput
+    lent : Output → Writer
     lent x = record { buffer = at x.bytes; place = x.place }
 
     after : ExchangeDone

@@ -7,7 +7,7 @@ use Rattle.std.specs.Borrow.{Bor, MutBor}
 use denote.Triple.Entry.{Args}
 use denote.Triple.Clauses.{Lasts, at_exit}
 use Rattle.refusals.specs.declared.Refusal.{Refusal}
-use Rattle.hex_digits.specs.declared.Output.{Output as LentOutput}
+use Rattle.hex_digits.specs.declared.Writer.{Writer}
 use Rattle.lines.specs.Texts.{whole}
 use Rattle.records_conversion.specs.declared.Way.{Way}
 use Rattle.records_conversion.specs.declared.ConversionState.{ConversionState}
@@ -27,11 +27,11 @@ pub record ConvertCall : Type 0 where
   pub state : MutBor ConversionState
   pub end : ℕ
   pub block : MutBor (List ℕ)
-  pub output : MutBor LentOutput
+  pub output : MutBor Writer
   pub answer : Result ⊤ Refusal
   pub state_left : ConversionState
   pub block_left : List ℕ
-  pub output_left : LentOutput
+  pub output_left : Writer
 
 -- `records_conversion::ConversionState::convert` answered so
 abbrev pub Converts : Way → ConvertCall → Type 0
@@ -50,9 +50,9 @@ pub record FinishCall : Type 0 where
   pub lifetimes : Lfts 4
   pub state : MutBor ConversionState
   pub block : Bor (List ℕ)
-  pub output : MutBor LentOutput
+  pub output : MutBor Writer
   pub state_left : ConversionState
-  pub output_left : LentOutput
+  pub output_left : Writer
 
 -- `records_conversion::ConversionState::finish` answered so
 abbrev pub Finishes : Way → FinishCall → Type 0

@@ -2,7 +2,7 @@
 // The loop of the programs that convert: lines from standard input, what they give to standard output. It reads, makes an
 // exchange (`records_conversion::exchanges`), and writes what that printed; no contract can say what is read or written.
 use channels::{Failed, receive, send};
-use hex_digits::Output;
+use hex_digits::Writer;
 use records_conversion::{ConversionState, Way};
 
 const BLOCK: usize = 65536;
@@ -15,7 +15,7 @@ fn convert_all(
     rt: &HostRuntime,
     way: Way,
     block: &mut [u8],
-    output: &mut Output,
+    output: &mut Writer,
 ) -> Result<(), Failed> {
     let mut state = ConversionState::new();
     // A proved loop has to end: no run uses up as many turns.
@@ -36,7 +36,7 @@ fn convert_all(
 pub fn serve(rt: &HostRuntime, way: Way) {
     let mut block = [0u8; BLOCK];
     let mut buffer = [0u8; ROOM];
-    let mut output = Output {
+    let mut output = Writer {
         buffer: &mut buffer,
         place: 0,
     };

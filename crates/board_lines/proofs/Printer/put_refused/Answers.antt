@@ -1,5 +1,5 @@
 use Rattle.board_lines.proofs.AnswerLaws.{refused_put, refused_left}
-use Rattle.board_lines.proofs.Printout.put_refused.Goals as goal
+use Rattle.board_lines.proofs.Printer.put_refused.Goals as goal
 
 pub returns-then-has_room-clause-text : goal.returns-then-has_room-clause-text
 returns-then-has_room-clause-text c = refused_put _ _ _ c.args.line c.has_room.ensures _ _ _ c.if-has_room.true c.put_refusal.ensures.text c.add_refusal.ensures

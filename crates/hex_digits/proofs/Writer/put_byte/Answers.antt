@@ -1,6 +1,6 @@
 use Rattle.hex_digits.proofs.OutputLaws.{put_whole, left_out}
 use Rattle.std.proofs.Common.{refl}
-use Rattle.hex_digits.proofs.Output.put_byte.Goals as goal
+use Rattle.hex_digits.proofs.Writer.put_byte.Goals as goal
 
 pub returns-then-has_room-clause-text : goal.returns-then-has_room-clause-text
 returns-then-has_room-clause-text c = put_whole _ _ _ _ _ refl c.has_room.ensures _ c.if-has_room.true refl
