@@ -54,7 +54,7 @@ fn answer_frame(
         Some(Frame::Store(address)) => printout.put_unless_done(number, store(line, m, address)),
         Some(Frame::Run(budget, level)) => answer_run(m, q, r, false, budget, level, printout),
         Some(Frame::Confined(budget, level)) => answer_run(m, q, r, true, budget, level, printout),
-        None => printout.put_refused(Refusal::MalformedLine, number),
+        None => printout.put_refused(Refusal::MalformedLine.number(), number),
     }
 }
 

@@ -1,26 +1,22 @@
 -- The lines that are printed, part after part.
 -- Assumes nothing.
-use Rattle.std.proofs.Common.{◌≡◌, ℕ, ◌+◌, ◌-◌, ◌≤◌, Bool, true, false, leb, List, [], ◌∷◌, ◌++◌, length, sym, refl, ap, ◌∙◌, arith, leb-true}
+use Rattle.std.proofs.Common.{◌≡◌, ℕ, zero, suc, ◌+◌, ◌-◌, ◌≤◌, Bool, true, false, leb, List, [], ◌∷◌, ◌++◌, length, sym, refl, ap, ◌∙◌, arith, leb-true, le-leb}
 use Rattle.std.proofs.lemmas.List.{take_all}
 use borrow.Rule.Slice.PartMut.{put_mid}
 use Rattle.hex_digits.specs.Digits.{digits}
 use Rattle.hex_digits.specs.Output.{Output, output, written, printed}
 use Rattle.hex_digits.proofs.OutputLaws.{length_written, copied, on_printed, room_printed, left_out, printed_front}
-use Rattle.board_lines.specs.Answers.{refused_line, ran_line}
+use Rattle.board_lines.specs.Answers.{refused_line, unless_done, ran_line}
 use Rattle.board_lines.specs.Totals.{totals_line}
-use Rattle.board_lines.specs.Printouts.{Tally, totals_at, printout, totalled, refusal_added, run_added, tallied}
-use Rattle.board_lines.proofs.TotalsLaws.{refused_added, ran_added, tallied_whole, tallied_left}
+use Rattle.board_lines.specs.Printouts.{Tally, totals_at, Printout, printout, totalled, refusal_added, run_added, tallied}
+use Rattle.board_lines.proofs.TotalsLaws.{refused_added, ran_added, tallied_whole, tallied_left, tallied_none}
 
 module _ (o : Output) (t : Bool) where
   -- 82
   module _ (r l : ℕ) (g : t ≡ leb (o.place + 13) (length o.bytes)) where
-    pub refusal_put : (a b c d : Output) → t ≡ true → a ≡ printed (digits 2 0x82) o → b ≡ printed (digits 2 r) a
-        → c ≡ printed (digits 8 l) b → d ≡ printed (10 ∷ []) c → d ≡ printed (refused_line r l) o
-    refusal_put a b c d h e f i j =
-        let k = leb-true _ _ (sym g ∙ h) in
-        let q = on_printed (digits 2 0x82) (digits 2 r) o a b 2 2 refl refl (omega (arith, k)) e f in
-        let q = on_printed (digits 2 0x82 ++ digits 2 r) (digits 8 l) o b c 4 8 refl refl (omega (arith, k)) q i in
-        on_printed (digits 2 0x82 ++ digits 2 r ++ digits 8 l) (10 ∷ []) o c d 12 1 refl refl (omega (arith, k)) q j
+    pub refusal_put : (y x : List ℕ) → t ≡ true → y ≡ refused_line r l → x ≡ put_mid o.place (o.place + 13 - o.place) o.bytes y
+        → output x (o.place + 13) ≡ printed (refused_line r l) o
+    refusal_put y x h e f = copied (refused_line r l) o.bytes y x o.place t g h e f
 
     pub refusal_left : t ≡ false → o ≡ printed (refused_line r l) o
     refusal_left h = left_out (refused_line r l) o.bytes o.place 13 t refl g h
@@ -60,6 +56,24 @@ module _ (o : Output) (t : Bool) where
     pub totals_left : t ≡ false → printout o k ≡ totalled (printout o k)
     totals_left h = ap (λ (s : Output). printout s k) (left_out (totals_line (totals_at k)) o.bytes o.place 27 t refl g h)
 
+-- ---- what a number refuses
+
+module _ (o : List ℕ) (p : ℕ) (k : Tally) where
+  pub refused_in_law : (w : List ℕ) (t : Tally) (r l : ℕ) → p + 13 ≤ length o → w ≡ written o p (refused_line r l) → t ≡ refusal_added k
+      → printout (output w (p + 13)) t ≡ tallied (refused_line r l) (printout (output o p) k)
+  refused_in_law w t r l h e d =
+      let fits : output w (p + 13) ≡ printed (refused_line r l) (output o p) =
+      ap (λ (x : List ℕ). output x (p + 13)) e ∙ sym (room_printed (refused_line r l) o p h) in
+      tallied_whole (refused_line r l) (printout (output o p) k) 13 true refl (sym (le-leb (p + 13) (length o) h)) (output w (p + 13)) t refl fits
+      (d ∙ sym (refused_added r l k))
+
+  pub unless_done_law : (n r : ℕ) → r ≡ 0 → printout (output o p) k ≡ tallied (unless_done n r) (printout (output o p) k)
+  unless_done_law n r e = rw e (sym (tallied_none (printout (output o p) k)))
+
+pub unless_refused_law : (n r : ℕ) (q x : Printout) → (r ≡ 0 → ⊥) → x ≡ tallied (refused_line r n) q → x ≡ tallied (unless_done n r) q
+unless_refused_law n zero q x h e = absurd (h refl)
+unless_refused_law n (suc r) q x h e = e
+
 -- ---- a line by itself
 
 -- a text put into a buffer of its size is what it holds then
@@ -69,6 +83,15 @@ filled t o e h g =
     let q : e.bytes ≡ written o 0 t = ap (λ (x : Output). x.bytes) (g ∙ room_printed t o 0 k) in
     let z : length (written o 0 t) ≡ length t = length_written t o 0 ∙ sym h in
     q ∙ sym (take_all (0 + length t) (written o 0 t) (omega (arith, z))) ∙ printed_front t o (omega (arith, h))
+
+pub refused_filled : (r l : ℕ) (o : List ℕ) (u v w e : Output) → length o ≡ 13 → u ≡ printed (digits 2 0x82) (output o 0)
+    → v ≡ printed (digits 2 r) u → w ≡ printed (digits 8 l) v → e ≡ printed (10 ∷ []) w → e.bytes ≡ refused_line r l
+refused_filled r l o u v w e i f₁ f₂ f₃ f₄ =
+    let s : Output = output o 0 in
+    let q = on_printed (digits 2 0x82) (digits 2 r) s u v 2 2 refl refl (omega (arith, i)) f₁ f₂ in
+    let q = on_printed (digits 2 0x82 ++ digits 2 r) (digits 8 l) s v w 4 8 refl refl (omega (arith, i)) q f₃ in
+    let q = on_printed (digits 2 0x82 ++ digits 2 r ++ digits 8 l) (10 ∷ []) s w e 12 1 refl refl (omega (arith, i)) q f₄ in
+    filled (refused_line r l) o e (sym i) q
 
 pub ran_filled : (n a b c d : ℕ) (o : List ℕ) (u v w x y z e : Output) → length o ≡ 31 → u ≡ printed (digits 2 0x83) (output o 0)
     → v ≡ printed (digits 8 n) u → w ≡ printed (digits 2 a) v → x ≡ printed (digits 2 b) w → y ≡ printed (digits 8 c) x

@@ -1,6 +1,6 @@
 // The lines that are printed and counted; a line for which there is no room is left out.
 ghost use Rattle.std.specs.Prelude.{◌≡◌, length};
-ghost use Rattle.refusals.specs.Numbers.{number_of, refusal_of};
+ghost use Rattle.refusals.specs.Numbers.{refusal_of};
 ghost use Rattle.hex_digits.specs.Output.{contents, printed};
 ghost use Rattle.board_lines.specs.Answers.{refused_line, unless_done, ran_line};
 ghost use Rattle.board_lines.specs.Printouts.{printout_of, tallied, totalled};
@@ -22,20 +22,35 @@ const TOTALS_KIND: u32 = 0x8F;
 
 const TOTALS_SIZE: usize = 27;
 
-// The 82 line of a refusal and a line's number, where nothing is counted.
-pub fn put_refusal(output: &mut Writer, refusal: Refusal, line: u32)
+// The 82 line of a refusal's number and a line's, into a buffer of its size: there the compiler knows that each part has room.
+fn write_refused(out: &mut [u8], refusal: u32, line: u32)
+    requires { length out.old ≡ 13 }
+    ensures { out.new ≡ refused_line refusal line }
+{
+    let mut text = Writer {
+        buffer: out,
+        place: 0,
+    };
+    text.put_digits(2, REFUSED_KIND);
+    text.put_digits(2, refusal);
+    text.put_digits(8, line);
+    text.put_byte(b'\n');
+}
+
+// The 82 line of a refusal's number, whatever it is, and a line's, where nothing is counted.
+pub fn put_refusal(output: &mut Writer, refusal: u32, line: u32)
     ensures lent { output.new.buffer.ghost_name ≡ output.old.buffer.ghost_name }
-    ensures text { contents output.new ≡ printed (refused_line (number_of refusal) line) (contents output.old) }
+    ensures text { contents output.new ≡ printed (refused_line refusal line) (contents output.old) }
 {
     if output.has_room(REFUSED_SIZE) {
-        output.put_digits(2, REFUSED_KIND);
-        output.put_digits(2, refusal.number());
-        output.put_digits(8, line);
-        output.put_byte(b'\n');
+        let place = output.place;
+        let end = place + REFUSED_SIZE;
+        write_refused(&mut output.buffer[place..end], refusal, line);
+        output.place = end;
     }
 }
 
-// The 83 line of a run, into a buffer of its size: there the compiler knows that each part has room.
+// The 83 line of a run, into a buffer of its size.
 fn write_ran(out: &mut [u8], steps: u32, stop: u32, code: u32, pc: u32, psw: u32)
     requires { length out.old ≡ 31 }
     ensures { out.new ≡ ran_line steps stop code pc psw }
@@ -54,14 +69,25 @@ fn write_ran(out: &mut [u8], steps: u32, stop: u32, code: u32, pc: u32, psw: u32
 }
 
 impl Printer<'_> {
-    // The 82 line of a refusal and a line's number.
-    pub fn put_refused(&mut self, refusal: Refusal, line: u32)
+    // The 82 line of a refusal's number and a line's.
+    pub fn put_refused(&mut self, refusal: u32, line: u32)
         ensures lent { self.new.output.buffer.ghost_name ≡ self.old.output.buffer.ghost_name }
-        ensures text { printout_of self.new ≡ tallied (refused_line (number_of refusal) line) (printout_of self.old) }
+        ensures text { printout_of self.new ≡ tallied (refused_line refusal line) (printout_of self.old) }
     {
         if self.output.has_room(REFUSED_SIZE) {
             put_refusal(&mut self.output, refusal, line);
             self.tally.add_refusal();
+        }
+    }
+
+    // The 82 line of a number that refuses; 0 is none, and prints nothing.
+    #[tactic(auto, using(crate::proofs::TotalsLaws::tallied_none))]
+    pub fn put_unless_zero(&mut self, line: u32, refusal: u32)
+        ensures lent { self.new.output.buffer.ghost_name ≡ self.old.output.buffer.ghost_name }
+        ensures text { printout_of self.new ≡ tallied (unless_done line refusal) (printout_of self.old) }
+    {
+        if refusal != 0 {
+            self.put_refused(refusal, line);
         }
     }
 
@@ -72,7 +98,7 @@ impl Printer<'_> {
         ensures text { printout_of self.new ≡ tallied (unless_done line (refusal_of done)) (printout_of self.old) }
     {
         if let Err(refusal) = done {
-            self.put_refused(refusal, line);
+            self.put_refused(refusal.number(), line);
         }
     }
 

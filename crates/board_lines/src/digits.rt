@@ -72,7 +72,8 @@ pub fn number_of(b: u8) -> u8
 
 // The number of two digits, and some number of any other bytes.
 pub fn byte_of_digits(high: u8, low: u8) -> u8
-    ensures { is_digit high ≡ true → is_digit low ≡ true → result ≡ digit_of high * 16 + digit_of low }
+    ensures number { result ≡ ((high % 16 + high / 64 * 9) * 16 + low % 16 + low / 64 * 9) % 256 }
+    ensures digits { is_digit high ≡ true → is_digit low ≡ true → result ≡ digit_of high * 16 + digit_of low }
 {
     number_of(high)
         .wrapping_mul(16)

@@ -37,10 +37,12 @@ fn converse_all(
     for _ in 0..u64::MAX {
         let Some(end) = more_input(rt, s, block)? else {
             finish(s, block, memory, &mut quads, &mut bank, printout);
-            return send(rt, &printout.output);
+            let place = printout.output.place;
+            return send(rt, printout.output.buffer, place);
         };
         s = converse(s, end, block, memory, &mut quads, &mut bank, printout);
-        send(rt, &printout.output)?;
+        let place = printout.output.place;
+        send(rt, printout.output.buffer, place)?;
     }
     Ok(())
 }

@@ -4,7 +4,6 @@
 mod failures;
 
 use crate::failures::report;
-use hex_digits::Writer;
 use std::io::{Error, ErrorKind, Read, Write};
 use std::thread::sleep;
 use std::time::Duration;
@@ -51,9 +50,9 @@ pub fn receive(rt: &HostRuntime, block: &mut [u8], end: usize) -> Result<Option<
     Err(Failed)
 }
 
-// Writes what was printed. `write_all` would not wait.
-pub fn send(rt: &HostRuntime, output: &Writer) -> Result<(), Failed> {
-    let mut left = output.buffer.get(..output.place).ok_or(Failed)?;
+// Writes the first bytes of a buffer, as many as `place`. `write_all` would not wait.
+pub fn send(rt: &HostRuntime, buffer: &[u8], place: usize) -> Result<(), Failed> {
+    let mut left = buffer.get(..place).ok_or(Failed)?;
     for _ in 0..u64::MAX {
         if left.is_empty() {
             return Ok(());

@@ -15,7 +15,7 @@ const DIGITS: &[u8; 16] = b"0123456789ABCDEF";
 
 // The last digit of a number.
 #[tactic(auto, using(crate::proofs::DigitLaws::in_table))]
-fn last_digit(x: u32) -> u8
+pub fn last_digit(x: u32) -> u8
     ensures { result ≡ digit_byte (x % 16) }
 {
     DIGITS[(x % 16) as usize]

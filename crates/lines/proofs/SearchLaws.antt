@@ -1,13 +1,15 @@
 -- The first line of a text, and the search for its end.
 -- Assumes nothing.
-use mathlib.Core.Path.{◌≡◌, refl, ap, ◌∙◌}
+use mathlib.Core.Path.{◌≡◌, refl, sym, ap, ◌∙◌}
+use mathlib.Core.Bool.{Bool, true, not, ◌&&◌}
 use mathlib.Core.List.{List, [], ◌∷◌}
 use Prim.Native.Nat.{ℕ, zero, suc, ◌+◌, ◌-◌, ◌≤◌, ◌<◌}
+use native.Mathlib.Numerals.{add-one}
 use native.Mathlib.Omega.{arith}
 use lib.ListN.{length, get_or, take, drop, length-drop, drop_of_length-le}
-use lib.Seq.{drop-cons, drop-drop, length-take-le}
-use lib.Dec.{eqb}
-use borrow.Author.Tests.{eq-eqb, eqb-true, ne_eqb}
+use lib.Seq.{drop-cons, drop-drop, get_or-drop, length-take-le}
+use lib.Dec.{eqb, leb}
+use borrow.Author.Tests.{eq-eqb, eqb-true, ne_eqb, le-leb, lt-leb, leb-true, leb-false}
 use Rattle.word.proofs.CaseLaws.{by_test}
 use Rattle.std.specs.Prelude.{Option, Some, None, unwrap_or}
 use Rattle.memchr.specs.Find.{IsFirstByte, is_byte}
@@ -44,6 +46,84 @@ first_newline t (Some k) f =
 
 pub none_after : (t : List ℕ) (from : ℕ) → length t ≤ from → from ≡ from + newline_at (drop from t)
 none_after t from h = omega (arith, past t from h)
+
+-- ---- bytes at once, and one by one
+
+leb_suc : (a b : ℕ) → leb (suc a) (suc b) ≡ leb a b
+leb_suc a b =
+    by_test (leb a b)
+    (λ e. le-leb (suc a) (suc b) (omega (arith, leb-true a b e)) ∙ sym e)
+    (λ e. lt-leb (suc a) (suc b) (omega (arith, leb-false a b e)) ∙ sym e)
+
+-- the first newline lies k bytes on or more, by one byte after another
+far_next : (t : List ℕ) (k : ℕ) → k < length t → (leb k (newline_at t) && not (eqb (get_or t k 0) 10)) ≡ leb (suc k) (newline_at t)
+unfolding newline_at
+far_next [] k h = absurd (omega arith)
+far_next (b ∷ t) zero h =
+    by_test (eqb b 10)
+    (λ e. rw e refl)
+    (λ e. rw (e, le-leb 0 (suc (newline_at t)) (omega arith), le-leb 1 (suc (newline_at t)) (omega arith)) refl)
+far_next (b ∷ t) (suc k) h =
+    by_test (eqb b 10)
+    (λ e. rw (e, lt-leb (suc k) 0 (omega arith), lt-leb (suc (suc k)) 0 (omega arith)) refl)
+    (λ e. rw (e, leb_suc k (newline_at t), leb_suc (suc k) (newline_at t)) (far_next t k (omega arith)))
+
+module _ (t : List ℕ) (i : ℕ) where
+  pub first_plain : i < length t → not (eqb (get_or t i 0) 10) ≡ leb 1 (newline_at (drop i t))
+  unfolding newline_at
+  first_plain h =
+      rw (drop-cons t i 0 h)
+      (by_test (eqb (get_or t i 0) 10)
+      (λ e. rw (e, lt-leb 1 0 (omega arith)) refl)
+      (λ e. rw (e, le-leb 1 (suc (newline_at (drop (suc i) t))) (omega arith)) refl))
+
+  pub next_plain : (k : ℕ) (x : Bool) → i + k < length t → x ≡ leb k (newline_at (drop i t))
+      → (x && not (eqb (get_or t (i + k) 0) 10)) ≡ leb (suc k) (newline_at (drop i t))
+  next_plain k x h e =
+      let inside : k < length (drop i t) = rw (length-drop i t) (omega arith) in
+      let byte : get_or t (i + k) 0 ≡ get_or (drop i t) k 0 = sym (get_or-drop i t k 0) in
+      (λ j. e j && not (eqb (byte j) 10)) ∙ far_next (drop i t) k inside
+
+-- bytes that are no newline are passed at once
+beyond : (t : List ℕ) (k : ℕ) → k ≤ newline_at t → newline_at t ≡ k + newline_at (drop k t)
+unfolding newline_at
+beyond t zero h = omega arith
+beyond [] (suc k) h = absurd (omega arith)
+beyond (b ∷ t) (suc k) h =
+    by_test (eqb b 10)
+    (λ e. absurd (omega (arith, rw e at h)))
+    (λ e. let g : k ≤ newline_at t = omega (arith, rw e at h) in
+    rw e (omega (arith, beyond t k g)))
+
+-- nothing but other bytes from `from` up to i
+pub record Seeking (t : List ℕ) (from i : ℕ) : Type 0 where
+  pub upto : i ≤ length t
+  pub sums : i + newline_at (drop i t) ≡ from + newline_at (drop from t)
+
+module _ (t : List ℕ) (from : ℕ) where
+  pub seeking_eight : (i : ℕ) (x : Bool) → Seeking t from i → i + 8 ≤ length t → x ≡ leb 8 (newline_at (drop i t)) → x ≡ true
+      → Seeking t from (i + 8)
+  seeking_eight i x r h e g =
+      let far : newline_at (drop i t) ≡ 8 + newline_at (drop (i + 8) t) =
+      beyond (drop i t) 8 (leb-true 8 (newline_at (drop i t)) (sym e ∙ g)) ∙ ap (λ (l : List ℕ). 8 + newline_at l) (drop-drop 8 i t) in
+      record { upto = h; sums = omega (arith, r.sums, far) }
+
+  found_at : (i : ℕ) → i < length t → get_or t i 0 ≡ 10 → newline_at (drop i t) ≡ 0
+  unfolding newline_at
+  found_at i h e = rw (drop-cons t i 0 h, eq-eqb (get_or t i 0) 10 e) refl
+
+  passed_at : (i : ℕ) → i < length t → (get_or t i 0 ≡ 10 → ⊥) → newline_at (drop i t) ≡ suc (newline_at (drop (suc i) t))
+  unfolding newline_at
+  passed_at i h e = rw (drop-cons t i 0 h, ne_eqb (get_or t i 0) 10 e) refl
+
+  pub seeking_found : (i : ℕ) → Seeking t from i → i < length t → get_or t i 0 ≡ 10 → i ≡ from + newline_at (drop from t)
+  seeking_found i r h e = omega (arith, r.sums, found_at i h e)
+
+  pub seeking_more : (i : ℕ) → Seeking t from i → i < length t → (get_or t i 0 ≡ 10 → ⊥) → Seeking t from (i + 1)
+  seeking_more i r h e = record { upto = omega arith; sums = rw add-one (omega (arith, r.sums, passed_at i h e)) }
+
+  pub seeking_end : (i : ℕ) → Seeking t from i → length t ≤ i → i ≡ from + newline_at (drop from t)
+  seeking_end i r h = omega (arith, r.sums, past t i h)
 
 -- ---- the first line
 

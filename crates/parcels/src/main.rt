@@ -4,7 +4,6 @@ ghost use Rattle.std.specs.Prelude.{◌≤◌, length};
 ghost use Rattle.parcels_listing.specs.Listing.{line_size};
 
 use channels::send;
-use hex_digits::Writer;
 use parcels_listing::{PARCEL_COUNT, put_lines};
 
 const BLOCK: usize = 32768;
@@ -17,11 +16,7 @@ fn print_list(rt: &HostRuntime, out: &mut [u8])
     let mut next = 0;
     while next < PARCEL_COUNT {
         let s = put_lines(next, out);
-        let printed = Writer {
-            buffer: &mut *out,
-            place: s.place,
-        };
-        if send(rt, &printed).is_err() {
+        if send(rt, out, s.place).is_err() {
             return;
         }
         next = s.next;

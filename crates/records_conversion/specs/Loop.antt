@@ -32,6 +32,11 @@ unfoldable pub lines_done : Way → List (List ℕ) → Progress → Progress
 lines_done w [] p = p
 lines_done w (s ∷ l) p = cond p.over p (lines_done w l (line_done (converted_by w s) p))
 
+-- the refusal that ends the work, by its number; 0 where no line is refused
+unfoldable pub refused_with : Way → List (List ℕ) → ℕ
+refused_with w [] = 0
+refused_with w (s ∷ l) = cond ((converted_by w s).refusal == 0) (refused_with w l) (converted_by w s).refusal
+
 -- ---- a block of input
 
 -- the lines that end in it, and where the rest begins; nothing is left once the work is over

@@ -2,9 +2,10 @@
 ghost use Rattle.std.specs.Prelude.{◌≡◌, false, is_err};
 ghost use Rattle.refusals.specs.Numbers.{refusal_of};
 ghost use Rattle.hex_digits.specs.Output.{contents};
+ghost use Rattle.lines.specs.Texts.{ended_lines};
 ghost use Rattle.records_lines.specs.Conversions.{line_output, output_of};
 ghost use Rattle.records_conversion.specs.Conversion.{converted_by};
-ghost use Rattle.records_conversion.specs.Loop.{progress, line_done, block_done, block_from, rest_by};
+ghost use Rattle.records_conversion.specs.Loop.{progress, line_done, block_done, block_from, rest_by, refused_with};
 
 use crate::Way;
 use board_lines::answers::put_refusal;
@@ -36,11 +37,12 @@ pub fn convert_line(
     ensures lent { output.new.buffer.ghost_name ≡ output.old.buffer.ghost_name }
     ensures text { progress (contents output.new) last.new (is_err result)
         ≡ line_done (converted_by way line.now) (progress (contents output.old) last.old false) }
+    ensures refusal { refusal_of result ≡ (converted_by way line.now).refusal }
 {
     *last = last.wrapping_add(1);
     let done = convert_either(way, line, output);
     if let Err(refusal) = done {
-        put_refusal(output, refusal, *last);
+        put_refusal(output, refusal.number(), *last);
     }
     done
 }
@@ -55,6 +57,7 @@ pub fn convert_block(
     ensures lent { output.new.buffer.ghost_name ≡ output.old.buffer.ghost_name }
     ensures text { block_done (progress (contents output.new) last.new (is_err result)) (rest_by text.now result)
         ≡ block_from way text.now (progress (contents output.old) last.old false) }
+    ensures refusal { refusal_of result ≡ refused_with way (ended_lines text.now) }
 {
     let mut from = 0;
     let mut to = newline_from(text, 0);

@@ -7,10 +7,8 @@ use mathlib.Core.List.{List, [], ◌∷◌, ◌++◌, append_assoc, append-nil}
 use native.Mathlib.Omega.{arith}
 use lib.ListN.{length, take, drop, length-append, length-take}
 use lib.Seq.{take-length, take-append-add}
-use Rattle.std.specs.Prelude.{Result, Ok, Err, is_err, ⊤}
+use Rattle.std.specs.Prelude.{is_err}
 use Rattle.std.specs.Borrow.{Bor, MutBor}
-use Rattle.refusals.specs.declared.Refusal.{Refusal}
-use Rattle.refusals.specs.declared.Refusal.TheVariants.{MalformedRecord}
 use Rattle.hex_digits.specs.declared.Writer.{Writer}
 use Rattle.word.proofs.CaseLaws.{by_test}
 use Rattle.hex_digits.specs.Output.{Output, output, contents, written}
@@ -19,8 +17,9 @@ use Rattle.lines.specs.Texts.{lines_of, next, last_of, ended_lines, size_of, las
 use Rattle.records_conversion.specs.declared.Way.{Way}
 use Rattle.records_conversion.specs.declared.ConversionState.{ConversionState}
 use Rattle.records_conversion.specs.Conversion.{conversion}
-use Rattle.records_conversion.specs.Loop.{Progress, progress, lines_done, block_from, most_kept, ExchangeDone, exchange_done, exchange_from, conversion_start}
+use Rattle.records_conversion.specs.Loop.{Progress, progress, lines_done, refused_with, block_from, most_kept, ExchangeDone, exchange_done, exchange_from, conversion_start}
 use Rattle.records_conversion.proofs.LoopLaws.{stopped, last_done, none_stopped, printed_room, roomy, rest_of, kept_last, exchange_lines_law, size_ended}
+use Rattle.records_conversion.proofs.RefusalLaws.{Answer, lines_answer, over_law}
 use Rattle.records_loop.specs.Serving.{ConvertCall, FinishCall, BetweenCalls, before_calls, after_call, ExchangeMade, EndMade, to_write, to_write_last}
 use Rattle.records_loop.specs.Serving.{Writes, refusal_written, more_written, last_written, BeginsWriting, nothing_written, some_written, ConversionPrints, ConversionBegins, ConversionServes}
 
@@ -34,7 +33,7 @@ module _ (w : Way) (p : BetweenCalls) (r : List ℕ) (x : ConvertCall) (f : Exch
   said : exchange_done (progress (contents x.output_left) x.state_left.last (is_err x.answer)) (take x.state_left.end x.block_left)
       ≡ exchange_from w bytes (progress (output p.buffer 0) p.last false)
   said =
-      (f.answers tt).1
+      (f.answers tt).1.0
       ∙ (λ i. exchange_from w (f.bytes i) (progress (output (f.buffer i) 0) (f.number i) false))
 
   done : progress (contents x.output_left) x.state_left.last (is_err x.answer)
@@ -173,11 +172,12 @@ conversion_serves ls ref w o input h g =
     state : ConversionState
     state = record { end = length after.kept; last = after.progress.last }
 
-    answer : Result ⊤ Refusal
-    answer = cond after.progress.over (Err MalformedRecord) (Ok tt)
+    -- the refusal that the contract asks for
+    told : Answer (refused_with w (ended_lines input))
+    told = lines_answer w (ended_lines input)
 
-    over_is : is_err answer ≡ after.progress.over
-    over_is = by_test after.progress.over (λ e. rw e refl) (λ e. rw e refl)
+    over_is : is_err told.answer ≡ after.progress.over
+    over_is = over_law w (ended_lines input) (output o 0) 0 told.answer told.number
 
     call : ConvertCall
     call =
@@ -187,7 +187,7 @@ conversion_serves ls ref w o input h g =
           end = length input;
           block = at input;
           output = at (lent (output o 0));
-          answer = answer;
+          answer = told.answer;
           state_left = state;
           block_left = after.kept;
           output_left = lent after.progress.output;
@@ -202,9 +202,12 @@ conversion_serves ls ref w o input h g =
           room = h;
           answers = λ _. (
             refl,
-            ap (λ (b : Bool). exchange_done (progress after.progress.output after.progress.last b) (take (length after.kept) after.kept)) over_is
-                ∙ ap (λ (t : List ℕ). exchange_done after.progress t) (take-length after.kept)
-                ∙ ap (λ (t : List ℕ). exchange_from w t (progress (output o 0) 0 false)) (sym (take-length input)),
+            (
+              ap (λ (b : Bool). exchange_done (progress after.progress.output after.progress.last b) (take (length after.kept) after.kept)) over_is
+                  ∙ ap (λ (t : List ℕ). exchange_done after.progress t) (take-length after.kept)
+                  ∙ ap (λ (t : List ℕ). exchange_from w t (progress (output o 0) 0 false)) (sym (take-length input)),
+              told.number ∙ ap (λ (t : List ℕ). refused_with w (ended_lines t)) (sym (take-length input)),
+            ),
           );
         }
 
@@ -214,11 +217,10 @@ conversion_serves ls ref w o input h g =
     last_call : FinishCall
     last_call =
         record {
-          lifetimes = ls;
-          state = at state;
+          lifetimes = ls.1;
+          state = state;
           block = shared_at after.kept;
           output = at (lent after.progress.output);
-          state_left = state;
           output_left = lent over.output;
         }
 

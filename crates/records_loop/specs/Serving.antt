@@ -20,8 +20,8 @@ use Rattle.records_conversion.proofs.ConversionState.finish.Reads as finish_cont
 
 -- ---- the calls
 
--- an exchange: what it was given, with lifetimes, pointers and ghost names, of which the contract says nothing, its answer, and
--- what it left
+-- an exchange: what it was given, with lifetimes, pointers and ghost names, of which the contract says only that the output's
+-- buffer stays the one that was lent, its answer, and what it left
 pub record ConvertCall : Type 0 where
   pub lifetimes : Lfts 4
   pub state : MutBor ConversionState
@@ -47,11 +47,10 @@ Converts w x =
 
 -- the end of input: what it was given, and what it left
 pub record FinishCall : Type 0 where
-  pub lifetimes : Lfts 4
-  pub state : MutBor ConversionState
+  pub lifetimes : Lfts 3
+  pub state : ConversionState
   pub block : Bor (List ℕ)
   pub output : MutBor Writer
-  pub state_left : ConversionState
   pub output_left : Writer
 
 -- `records_conversion::ConversionState::finish` answered so
@@ -64,7 +63,7 @@ Finishes w x =
     arguments = (x.state, (w, (x.block, (x.output, tt))))
 
     left : Lasts finish.ended x.lifetimes arguments
-    left = (x.state_left, (tt, (tt, (x.output_left, tt))))
+    left = (tt, (tt, (tt, (x.output_left, tt))))
 
 -- ---- how the loop makes them, each going on from what the last one left
 
@@ -94,8 +93,8 @@ pub record ExchangeMade (w : Way) (p : BetweenCalls) (r : List ℕ) (x : Convert
 
 -- the end of input
 pub record EndMade (w : Way) (p : BetweenCalls) (x : FinishCall) : Type 0 where
-  pub number : x.state.now.last ≡ p.last
-  pub bytes : take x.state.now.end x.block.now ≡ p.kept
+  pub number : x.state.last ≡ p.last
+  pub bytes : take x.state.end x.block.now ≡ p.kept
   pub buffer : x.output.now.buffer.now ≡ p.buffer
   pub room : room_needed (suc (length p.kept)) ≤ length p.buffer
   pub answers : Finishes w x

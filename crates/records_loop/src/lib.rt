@@ -22,10 +22,12 @@ fn convert_all(
     for _ in 0..u64::MAX {
         let Some(end) = receive(rt, block, state.end)? else {
             state.finish(way, block, output);
-            return send(rt, output);
+            let place = output.place;
+            return send(rt, output.buffer, place);
         };
         let converted = state.convert(way, end, block, output);
-        send(rt, output)?;
+        let place = output.place;
+        send(rt, output.buffer, place)?;
         if converted.is_err() {
             return Ok(());
         }

@@ -14,4 +14,4 @@ pub returns-in-Some-Confined-clause-text : goal.returns-in-Some-Confined-clause-
 returns-in-Some-Confined-clause-text c = answered_confined _ _ _ _ _ _ _ _ _ _ (some_frame _ _ _ c.in-Some-Confined.is (rw c.in-Some-Confined.is at c.in-Some-Confined.field-0-is)) c.answer_run-in-Some-Confined.ensures.text
 
 pub returns-in-None-clause-text : goal.returns-in-None-clause-text
-returns-in-None-clause-text c = answered_bad _ _ _ _ _ _ _ _ c.in-None.is c.put_refused.ensures.text
+returns-in-None-clause-text c = answered_bad _ _ _ _ _ _ _ _ c.in-None.is (rw c.number.ensures at c.put_refused.ensures.text)

@@ -7,4 +7,4 @@ pub returns : goal.returns
 returns c = let s = c.args.line.now in
     let i = c.args.i in
     let p = c.requires in
-    c.byte_of_digits.ensures (digit_at s i p.1 (omega (arith, p.0))) (digit_at s (i + 1) p.1 (omega (arith, p.0))) ∙ sym (number_2 s i)
+    c.byte_of_digits.ensures.digits (digit_at s i p.1 (omega (arith, p.0))) (digit_at s (i + 1) p.1 (omega (arith, p.0))) ∙ sym (number_2 s i)

@@ -27,9 +27,9 @@ checksum-requires c = let p = record_parts _ _ c.is_record.ensures c.if-not-is_r
 pub returns-then-sum-checksum : goal.returns-then-sum-checksum
 returns-then-sum-checksum c = let s = c.args.line.now in
     let p = record_parts _ _ c.is_record.ensures c.if-not-is_record.false in
-    right_sum s p _ _ (c.byte_of_digits-sum.ensures (digit_in s p _ (omega (arith, p.long)) (omega (arith, p.long))) (digit_in s p _ (omega (arith, p.long)) (omega (arith, p.long)))) c.checksum.ensures c.if-sum-checksum.true
+    right_sum s p _ _ (c.byte_of_digits-sum.ensures.digits (digit_in s p _ (omega (arith, p.long)) (omega (arith, p.long))) (digit_in s p _ (omega (arith, p.long)) (omega (arith, p.long)))) c.checksum.ensures c.if-sum-checksum.true
 
 pub returns-else-sum-checksum : goal.returns-else-sum-checksum
 returns-else-sum-checksum c = let s = c.args.line.now in
     let p = record_parts _ _ c.is_record.ensures c.if-not-is_record.false in
-    wrong_sum s p _ _ (c.byte_of_digits-sum.ensures (digit_in s p _ (omega (arith, p.long)) (omega (arith, p.long))) (digit_in s p _ (omega (arith, p.long)) (omega (arith, p.long)))) c.checksum.ensures c.if-sum-checksum.false
+    wrong_sum s p _ _ (c.byte_of_digits-sum.ensures.digits (digit_in s p _ (omega (arith, p.long)) (omega (arith, p.long))) (digit_in s p _ (omega (arith, p.long)) (omega (arith, p.long)))) c.checksum.ensures c.if-sum-checksum.false

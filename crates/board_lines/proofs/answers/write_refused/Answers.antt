@@ -1,0 +1,14 @@
+use Rattle.board_lines.proofs.AnswerLaws.{refused_filled, on_loan}
+use Rattle.std.proofs.Common.{rules, sym, ◌∙◌}
+use Rattle.board_lines.proofs.answers.write_refused.Goals as goal
+
+pub returns : goal.returns
+returns c =
+    let p = c.put_digits.ensures in
+    let p2 = c.put_digits-2.ensures in
+    let p3 = c.put_digits-3.ensures in
+    let p4 = c.put_byte.ensures in
+    let same = sym (p4.lent ∙ p3.lent ∙ p2.lent ∙ p.lent) in
+    let s = c.args in
+    let line = refused_filled s.refusal s.line _ _ _ _ _ c.requires p.text p2.text p3.text p4.text in
+    search (rules, on_loan same line)
