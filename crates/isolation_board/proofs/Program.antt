@@ -176,6 +176,7 @@ program_serves p c m o input e h g =
           answer = state;
           block_left = after.bytes;
           left = lent_by after.board_io;
+          left_at = p.buffer;
         }
 
     exchange_allowed : exchange_by call ≡ exchange_of 0 (take (length input) input) (board_io (board c m) (printout (output o.bytes 0) start_tally))
@@ -189,7 +190,7 @@ program_serves p c m o input e h g =
         (lines_on (next after.last) (last_line (take (length after.bytes) after.bytes)) (cleared_by (lent_by after.board_io)))
 
     last_call : LastCall
-    last_call = record { places = p; stream = state; block = after.bytes; left = lent_by over }
+    last_call = record { places = p; stream = state; block = after.bytes; left = lent_by over; left_at = p.buffer }
 
     room_left : suc (length (take (length after.bytes) after.bytes)) * 13 + 27 ≤ length after.board_io.printout.output.bytes
     room_left =

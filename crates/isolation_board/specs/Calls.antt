@@ -25,7 +25,7 @@ use Rattle.board_conversation.proofs.exchanges.converse.Reads as converse_contra
 use Rattle.board_conversation.specs.contracts.exchanges.finish as finish
 use Rattle.board_conversation.proofs.exchanges.finish.Reads as finish_contract
 
--- a reference's pointer and ghost name; no contract here says anything of them
+-- a reference's pointer and ghost name; all that a contract here says of them is that the buffer of a printout keeps its ghost name
 pub record Reference : Type 0 where
   pub ptr : ℕ × ℕ
   pub name : GName
@@ -95,20 +95,20 @@ pub record LentBoard : Type 0 where
   pub printout : Printout
 
 -- a printout of the code, with its buffer lent
-abbrev pub lent_printout : ExchangePlaces → Printout → Printer
+abbrev pub lent_printout : Reference → Printout → Printer
 lent_printout p o =
-    record { output = record { buffer = lent_at p.buffer o.output.bytes; place = o.output.place }; tally = o.tally }
+    record { output = record { buffer = lent_at p o.output.bytes; place = o.output.place }; tally = o.tally }
 
 abbrev pub lent_to : ExchangePlaces → LentBoard → MutBor Memory × (MutBor Cache × (MutBor Bank × (MutBor Printer × Unit {0})))
 lent_to p s =
     let cache = lent_at p.cache s.machine.cache in
     let bank = lent_at p.bank s.machine.bank in
-    (lent_at p.memory s.memory, (cache, (bank, (lent_at p.printout (lent_printout p s.printout), tt))))
+    (lent_at p.memory s.memory, (cache, (bank, (lent_at p.printout (lent_printout p.buffer s.printout), tt))))
 
-abbrev pub left_by : ExchangePlaces → LentBoard → Memory × (Cache × (Bank × (Printer × Unit {0})))
+abbrev pub left_by : Reference → LentBoard → Memory × (Cache × (Bank × (Printer × Unit {0})))
 left_by p s = (s.memory, (s.machine.cache, (s.machine.bank, (lent_printout p s.printout, tt))))
 
--- an exchange of the loop: what it was given beside them, its answer, and what it left
+-- an exchange of the loop: what it was given beside them, its answer, what it left, and the reference of the buffer in that
 pub record ExchangeCall : Type 0 where
   pub places : ExchangePlaces
   pub stream : LoopState
@@ -117,6 +117,7 @@ pub record ExchangeCall : Type 0 where
   pub answer : LoopState
   pub block_left : List ℕ
   pub left : LentBoard
+  pub left_at : Reference
 
 abbrev pub Converse : LentBoard → ExchangeCall → Type 0
 Converse s x =
@@ -130,14 +131,15 @@ Converse s x =
     arguments = (x.stream, (x.end, (lent_at x.places.block x.block, lent_to x.places s)))
 
     left : Lasts converse.ended lifetimes arguments
-    left = (tt, (tt, (x.block_left, left_by x.places x.left)))
+    left = (tt, (tt, (x.block_left, left_by x.left_at x.left)))
 
--- the end of input: what it was given, and what it left
+-- the end of input: what it was given, and what it left, with the same
 pub record LastCall : Type 0 where
   pub places : ExchangePlaces
   pub stream : LoopState
   pub block : List ℕ
   pub left : LentBoard
+  pub left_at : Reference
 
 abbrev pub Finish : LentBoard → LastCall → Type 0
 Finish s x =
@@ -151,4 +153,4 @@ Finish s x =
     arguments = (x.stream, (shared_at x.places.block x.block, lent_to x.places s))
 
     left : Lasts finish.ended lifetimes arguments
-    left = (tt, (tt, left_by x.places x.left))
+    left = (tt, (tt, left_by x.left_at x.left))
