@@ -1,6 +1,6 @@
 -- A line answered: the ways out of each part, and a line by its frame.
 -- Assumes nothing.
-use Rattle.std.proofs.Common.{◌≡◌, ℕ, Bool, true, false, ◌&&◌, List, sym, refl, ap, ◌∙◌}
+use Rattle.std.proofs.Common.{◌≡◌, ℕ, Bool, true, false, ◌&&◌, leb, List, sym, refl, ap, ◌∙◌}
 use Rattle.std.specs.Prelude.{Option, Some, None}
 use Rattle.machine.specs.Registers.{Bank, Setting, setting, set_register}
 use Rattle.machine.specs.Cache.{Cache}
@@ -61,6 +61,11 @@ module _ (n : ℕ) (s : List ℕ) (b : Bank) (q : Cache) (m : List ℕ) (o : Pri
       → board_io (board (cpu b q) m) o' ≡ printed_on (frame_answer n s (board (cpu b q) m) f) o
   unfolding frame_answer
   answered_bad o' g h = framed None _ g (ap (board_io (board (cpu b q) m)) h)
+
+-- ---- a run of many steps
+
+pub long_run_law : (f : Option Frame) (budget level : ℕ) → f ≡ Some (Run budget level) → leb 4096 budget ≡ is_long_run f
+long_run_law f budget level e = ap is_long_run (sym e)
 
 -- ---- a line, answered or waiting, by the frame that it is
 

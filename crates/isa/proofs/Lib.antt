@@ -1,4 +1,5 @@
 pub mod BoundLaws
+pub mod FieldLaws
 pub mod LengthLaws
 pub mod AnswerLaws
 pub mod Carried

@@ -1,0 +1,4 @@
+pub mod ShortLaws
+pub mod DyadicLaws
+pub mod FormLaws
+pub mod RestLaws
