@@ -77,7 +77,7 @@ unless_refused_law n (suc r) q x h e = e
 -- ---- a line by itself
 
 -- a text put into a buffer of its size is what it holds then
-filled : (t o : List ℕ) (e : Output) → length t ≡ length o → e ≡ printed t (output o 0) → e.bytes ≡ t
+pub filled : (t o : List ℕ) (e : Output) → length t ≡ length o → e ≡ printed t (output o 0) → e.bytes ≡ t
 filled t o e h g =
     let k : 0 + length t ≤ length o = omega (arith, h) in
     let q : e.bytes ≡ written o 0 t = ap (λ (x : Output). x.bytes) (g ∙ room_printed t o 0 k) in

@@ -8,7 +8,7 @@ use std::io::{Error, ErrorKind, Read, Write};
 use std::thread::sleep;
 use std::time::Duration;
 
-// A call failed, and its failure was reported.
+// A call failed, and its failure was reported; or what was lent has no such place, which no program comes to.
 #[derive(Clone, Copy, PartialEq, Eq, Debug)]
 pub struct Failed;
 

@@ -1,10 +1,12 @@
 -- The frames of a record's data: one printed, and one after another.
 -- Assumes nothing.
-use Rattle.std.proofs.Common.{◌≡◌, ℕ, zero, suc, ◌+◌, ◌*◌, ◌/◌, ◌%◌, ◌^◌, ◌<◌, ◌≤◌, min, Bool, true, leb, List, [], ◌∷◌, ◌++◌, length, take, drop, sym, refl, ap, ◌∙◌, arith, length-append, length-drop, take-append-drop, leb-true}
+use Rattle.std.proofs.Common.{◌≡◌, ℕ, zero, suc, ◌+◌, ◌-◌, ◌*◌, ◌/◌, ◌%◌, ◌^◌, ◌<◌, ◌≤◌, min, Bool, true, leb, List, [], ◌∷◌, ◌++◌, length, take, drop, sym, refl, ap, ◌∙◌, arith, length-append, length-drop, take-append-drop, leb-true, le-leb}
+use borrow.Rule.Slice.PartMut.{put_mid}
 use Rattle.std.proofs.Math.Seq.{take-append_seam, drop-append_seam}
 use Rattle.hex_digits.specs.Digits.{digits}
-use Rattle.hex_digits.specs.Output.{Output, newline, printed}
-use Rattle.hex_digits.proofs.OutputLaws.{length_written, room_printed, on_printed, printed_none}
+use Rattle.hex_digits.specs.Output.{Output, newline, output, printed}
+use Rattle.hex_digits.proofs.OutputLaws.{length_written, room_printed, on_printed, printed_none, copied}
+use Rattle.board_lines.proofs.AnswerLaws.{filled}
 use Rattle.lines.specs.Texts.{lines_text}
 use Rattle.lines.proofs.CarryLaws.{least_is, least_take, least_drop}
 use Rattle.records_lines.specs.Conversions.{store_frame, frames_from, frames_of}
@@ -18,6 +20,26 @@ frame_put o w x y z d v h e f g i =
     let q = on_printed (digits 2 2 ++ digits 8 v) d o x y 10 (length d) refl refl (omega (arith, h)) q g in
     let l : 10 + length d ≡ length (store_frame v d) = omega (arith, length-append (digits 2 2 ++ digits 8 v) d) in
     on_printed (store_frame v d) (newline ∷ []) o y z (10 + length d) 1 l refl (omega (arith, h)) q i
+
+length_frame : (a : ℕ) (d : List ℕ) → length (store_frame a d ++ newline ∷ []) ≡ length d + 11
+length_frame a d =
+    omega (arith, length-append (digits 2 2 ++ digits 8 a ++ d) (newline ∷ []), length-append (digits 2 2 ++ digits 8 a) d)
+
+pub frame_filled : (d : List ℕ) (v : ℕ) (o : List ℕ) (w x y z : Output) → length o ≡ length d + 11 → w ≡ printed (digits 2 2) (output o 0)
+    → x ≡ printed (digits 8 v) w → y ≡ printed d x → z ≡ printed (newline ∷ []) y → z.bytes ≡ store_frame v d ++ newline ∷ []
+frame_filled d v o w x y z h e f g i =
+    filled (store_frame v d ++ newline ∷ []) o z (length_frame v d ∙ sym h) (frame_put (output o 0) w x y z d v (omega (arith, h)) e f g i)
+
+pub frame_placed : (o : Output) (d : List ℕ) (v : ℕ) (y x : List ℕ) → o.place + length d + 11 ≤ length o.bytes → y ≡ store_frame v d ++ newline ∷ []
+    → x ≡ put_mid o.place (o.place + length d + 11 - o.place) o.bytes y
+    → output x (o.place + length d + 11) ≡ printed (store_frame v d ++ newline ∷ []) o
+frame_placed o d v y x h e f =
+    let t = store_frame v d ++ newline ∷ [] in
+    let n : o.place + length t ≡ o.place + length d + 11 = omega (arith, length_frame v d) in
+    let k : o.place + length t ≤ length o.bytes = omega (arith, n, h) in
+    sym (ap (output x) n)
+    ∙ copied t o.bytes y x o.place true (sym (le-leb (o.place + length t) (length o.bytes) k)) refl e
+    (f ∙ ap (λ (j : ℕ). put_mid o.place (j - o.place) o.bytes y) (sym n))
 
 -- ---- the frames of digits
 
@@ -34,10 +56,6 @@ unfolding frames_from lines_text
 first_frame a d h =
     let e : (length d + 63) / 64 ≡ suc ((length (drop 64 d) + 63) / 64) = omega (arith, length-drop 64 d) in
     rw e refl
-
-length_frame : (a : ℕ) (d : List ℕ) → length (store_frame a d ++ newline ∷ []) ≡ length d + 11
-length_frame a d =
-    omega (arith, length-append (digits 2 2 ++ digits 8 a ++ d) (newline ∷ []), length-append (digits 2 2 ++ digits 8 a) d)
 
 length_from : (n a : ℕ) (d : List ℕ) → length d ≤ n * 64 → length (lines_text (frames_from n a d)) ≡ length d + n * 11
 unfolding frames_from lines_text

@@ -101,16 +101,31 @@ fn address_of(digits: &[u8]) -> u32
     address
 }
 
-// A frame and its newline.
+// A frame and its newline, into a buffer of its size: so the place need not go through memory at each part.
+fn write_frame(out: &mut [u8], address: u32, digits: &[u8])
+    requires { length out.old ≡ length digits.now + 11 }
+    ensures { out.new ≡ store_frame address digits.now ++ newline ∷ [] }
+{
+    let mut frame = Writer {
+        buffer: out,
+        place: 0,
+    };
+    frame.put_digits(2, STORE_KIND);
+    frame.put_digits(8, address);
+    frame.put_text(digits);
+    frame.put_byte(b'\n');
+}
+
+// The same behind what was printed.
 fn put_frame(output: &mut Writer, address: u32, digits: &[u8])
     requires { output.old.place + length digits.now + 11 ≤ length output.old.buffer.now }
     ensures lent { output.new.buffer.ghost_name ≡ output.old.buffer.ghost_name }
     ensures text { contents output.new ≡ printed (store_frame address digits.now ++ newline ∷ []) (contents output.old) }
 {
-    output.put_digits(2, STORE_KIND);
-    output.put_digits(8, address);
-    output.put_text(digits);
-    output.put_byte(b'\n');
+    let place = output.place;
+    let end = place + digits.len() + FRAME_REST;
+    write_frame(&mut output.buffer[place..end], address, digits);
+    output.place = end;
 }
 
 // All frames of data; left out where there is no room for them all.

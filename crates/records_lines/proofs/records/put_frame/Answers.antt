@@ -1,5 +1,6 @@
-use Rattle.records_lines.proofs.FrameLaws.{frame_put}
+use Rattle.std.proofs.Common.{refl}
+use Rattle.records_lines.proofs.FrameLaws.{frame_placed}
 use Rattle.records_lines.proofs.records.put_frame.Goals as goal
 
 pub returns-clause-text : goal.returns-clause-text
-returns-clause-text c = frame_put _ _ _ _ _ c.args.digits.now c.args.address c.requires c.put_digits.ensures.text c.put_digits-2.ensures.text c.put_text.ensures.text c.put_byte.ensures.text
+returns-clause-text c = frame_placed _ c.args.digits.now c.args.address _ _ c.requires c.write_frame.ensures refl
