@@ -19,9 +19,6 @@ CRATES = ROOT / 'crates'
 
 # (file, other file): why the same lines stand in both; paths from crates/ on
 ALLOWED = {
-    ('decode_tables/src/legal.rt', 'decode_tables/src/legal.rt'): 'matches over all modes, with an answer in every arm',
-    ('decode_tables/src/legal.rt', 'fast_dyadic/src/cache_words.rt'): 'the same',
-    ('decode_tables/src/legal.rt', 'exec_dqm/src/quads.rt'): 'the same; one function for both cost instructions in a step',
     ('exec_event_frames/src/kernel.rt', 'exec_stack/src/returns.rt'): 'KRET and CRET read PC and PSW of the same frame',
 }
 
