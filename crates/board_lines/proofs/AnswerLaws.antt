@@ -1,11 +1,10 @@
 -- The lines that are printed, part after part.
 -- Assumes nothing.
 use Rattle.std.proofs.Common.{◌≡◌, ℕ, zero, suc, ◌+◌, ◌-◌, ◌≤◌, Bool, true, false, leb, List, [], ◌∷◌, ◌++◌, length, sym, refl, ap, ◌∙◌, arith, leb-true, le-leb}
-use Rattle.std.proofs.lemmas.List.{take_all}
 use borrow.Rule.Slice.PartMut.{put_mid}
 use Rattle.hex_digits.specs.Digits.{digits}
 use Rattle.hex_digits.specs.Output.{Output, output, written, printed}
-use Rattle.hex_digits.proofs.OutputLaws.{length_written, copied, on_printed, room_printed, left_out, printed_front}
+use Rattle.hex_digits.proofs.OutputLaws.{copied, on_printed, room_printed, left_out, buffer_filled}
 use Rattle.board_lines.specs.Answers.{refused_line, unless_done, ran_line}
 use Rattle.board_lines.specs.Totals.{totals_line}
 use Rattle.board_lines.specs.Printouts.{Tally, totals_at, Printout, printout, totalled, refusal_added, run_added, tallied}
@@ -76,14 +75,6 @@ unless_refused_law n (suc r) q x h e = e
 
 -- ---- a line by itself
 
--- a text put into a buffer of its size is what it holds then
-pub filled : (t o : List ℕ) (e : Output) → length t ≡ length o → e ≡ printed t (output o 0) → e.bytes ≡ t
-filled t o e h g =
-    let k : 0 + length t ≤ length o = omega (arith, h) in
-    let q : e.bytes ≡ written o 0 t = ap (λ (x : Output). x.bytes) (g ∙ room_printed t o 0 k) in
-    let z : length (written o 0 t) ≡ length t = length_written t o 0 ∙ sym h in
-    q ∙ sym (take_all (0 + length t) (written o 0 t) (omega (arith, z))) ∙ printed_front t o (omega (arith, h))
-
 pub refused_filled : (r l : ℕ) (o : List ℕ) (u v w e : Output) → length o ≡ 13 → u ≡ printed (digits 2 0x82) (output o 0)
     → v ≡ printed (digits 2 r) u → w ≡ printed (digits 8 l) v → e ≡ printed (10 ∷ []) w → e.bytes ≡ refused_line r l
 refused_filled r l o u v w e i f₁ f₂ f₃ f₄ =
@@ -91,7 +82,7 @@ refused_filled r l o u v w e i f₁ f₂ f₃ f₄ =
     let q = on_printed (digits 2 0x82) (digits 2 r) s u v 2 2 refl refl (omega (arith, i)) f₁ f₂ in
     let q = on_printed (digits 2 0x82 ++ digits 2 r) (digits 8 l) s v w 4 8 refl refl (omega (arith, i)) q f₃ in
     let q = on_printed (digits 2 0x82 ++ digits 2 r ++ digits 8 l) (10 ∷ []) s w e 12 1 refl refl (omega (arith, i)) q f₄ in
-    filled (refused_line r l) o e (sym i) q
+    buffer_filled (refused_line r l) o e (sym i) q
 
 pub ran_filled : (n a b c d : ℕ) (o : List ℕ) (u v w x y z e : Output) → length o ≡ 31 → u ≡ printed (digits 2 0x83) (output o 0)
     → v ≡ printed (digits 8 n) u → w ≡ printed (digits 2 a) v → x ≡ printed (digits 2 b) w → y ≡ printed (digits 8 c) x
@@ -104,8 +95,4 @@ ran_filled n a b c d o u v w x y z e i f₁ f₂ f₃ f₄ f₅ f₆ f₇ =
     let q = on_printed (digits 2 0x83 ++ digits 8 n ++ digits 2 a ++ digits 2 b) (digits 8 c) s x y 14 8 refl refl (omega (arith, i)) q f₅ in
     let q = on_printed (digits 2 0x83 ++ digits 8 n ++ digits 2 a ++ digits 2 b ++ digits 8 c) (digits 8 d) s y z 22 8 refl refl (omega (arith, i)) q f₆ in
     let q = on_printed (digits 2 0x83 ++ digits 8 n ++ digits 2 a ++ digits 2 b ++ digits 8 c ++ digits 8 d) (10 ∷ []) s z e 30 1 refl refl (omega (arith, i)) q f₇ in
-    filled (ran_line n a b c d) o e (sym i) q
-
--- what a lender holds when the loan that it gave has ended with the same reference
-pub on_loan : {G : Type 0} {g h : G} {s t : List ℕ} → g ≡ h → s ≡ t → (x : List ℕ) → (g ≡ h → x ≡ s) → x ≡ t
-on_loan e f x k = k e ∙ f
+    buffer_filled (ran_line n a b c d) o e (sym i) q

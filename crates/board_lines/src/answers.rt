@@ -80,7 +80,7 @@ impl Printer<'_> {
         }
     }
 
-    // The 82 line of a number that refuses; 0 is none, and prints nothing.
+    // For a caller that has a number: its 82 line, or nothing for 0, which refuses nothing.
     #[tactic(auto, using(crate::proofs::TotalsLaws::tallied_none))]
     pub fn put_unless_zero(&mut self, line: u32, refusal: u32)
         ensures lent { self.new.output.buffer.ghost_name ≡ self.old.output.buffer.ghost_name }

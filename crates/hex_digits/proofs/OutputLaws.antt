@@ -7,7 +7,7 @@ use Prim.Native.Nat.{ℕ, suc, ◌+◌, ◌-◌, ◌≤◌, ◌<◌}
 use native.Mathlib.Nat.{add_assoc, add-zero}
 use native.Mathlib.Omega.{arith}
 use lib.ListN.{length, take, drop, set, length-append, length-set, take-append-drop}
-use lib.Seq.{set_comm, take-suc-set, drop-set-lt, drop-drop}
+use lib.Seq.{set_comm, take-suc-set, take_all, drop-set-lt, drop-drop}
 use lib.Dec.{leb}
 use borrow.Author.Tests.{le-leb, lt-leb, leb-true}
 use borrow.Rule.Slice.PartMut.{put_mid}
@@ -127,3 +127,15 @@ shown t o h = rw (room_printed t o 0 (omega arith)) (written_front t o 0 (omega 
 -- as it was written
 pub printed_front : (t o : List ℕ) → length t ≤ length o → take (0 + length t) (written o 0 t) ≡ t
 printed_front t o h = written_front t o 0 (omega arith)
+
+-- a text put into a buffer of its size is what it holds then
+pub buffer_filled : (t o : List ℕ) (e : Output) → length t ≡ length o → e ≡ printed t (output o 0) → e.bytes ≡ t
+buffer_filled t o e h g =
+    let k : 0 + length t ≤ length o = omega (arith, h) in
+    let q : e.bytes ≡ written o 0 t = ap (λ (x : Output). x.bytes) (g ∙ room_printed t o 0 k) in
+    let z : length (written o 0 t) ≡ length t = length_written t o 0 ∙ sym h in
+    q ∙ sym (take_all (0 + length t) (written o 0 t) (omega (arith, z))) ∙ printed_front t o (omega (arith, h))
+
+-- what a lender holds when the loan that it gave has ended with the same reference
+pub on_loan : {G : Type 0} {g h : G} {s t : List ℕ} → g ≡ h → s ≡ t → (x : List ℕ) → (g ≡ h → x ≡ s) → x ≡ t
+on_loan e f x k = k e ∙ f

@@ -108,7 +108,7 @@ lent_to p s =
 abbrev pub left_by : Reference → LentBoard → Memory × (Cache × (Bank × (Printer × Unit {0})))
 left_by p s = (s.memory, (s.machine.cache, (s.machine.bank, (lent_printout p s.printout, tt))))
 
--- an exchange of the loop: what it was given beside them, its answer, what it left, and the reference of the buffer in that
+-- an exchange of the loop: what it was given beside them, its answer, what it left, and where the buffer that it left lies
 pub record ExchangeCall : Type 0 where
   pub places : ExchangePlaces
   pub stream : LoopState
@@ -133,7 +133,7 @@ Converse s x =
     left : Lasts converse.ended lifetimes arguments
     left = (tt, (tt, (x.block_left, left_by x.left_at x.left)))
 
--- the end of input: what it was given, and what it left, with the same
+-- the end of input: what it was given, what it left, and where the buffer that it left lies
 pub record LastCall : Type 0 where
   pub places : ExchangePlaces
   pub stream : LoopState

@@ -31,6 +31,10 @@ found : (t : List ℕ) (k : ℕ) → k < length t → get_or t k 0 ≡ 10 → ne
 unfolding newline_at
 found t k h e = rw (drop-cons t k 0 h, eq-eqb (get_or t k 0) 10 e) refl
 
+past_one : (t : List ℕ) (k : ℕ) → k < length t → (get_or t k 0 ≡ 10 → ⊥) → newline_at (drop k t) ≡ suc (newline_at (drop (suc k) t))
+unfolding newline_at
+past_one t k h e = rw (drop-cons t k 0 h, ne_eqb (get_or t k 0) 10 e) refl
+
 past : (t : List ℕ) (k : ℕ) → length t ≤ k → newline_at (drop k t) ≡ 0
 unfolding newline_at
 past t k h = rw (drop_of_length-le t h) refl
@@ -108,19 +112,11 @@ module _ (t : List ℕ) (from : ℕ) where
       beyond (drop i t) 8 (leb-true 8 (newline_at (drop i t)) (sym e ∙ g)) ∙ ap (λ (l : List ℕ). 8 + newline_at l) (drop-drop 8 i t) in
       record { upto = h; sums = omega (arith, r.sums, far) }
 
-  found_at : (i : ℕ) → i < length t → get_or t i 0 ≡ 10 → newline_at (drop i t) ≡ 0
-  unfolding newline_at
-  found_at i h e = rw (drop-cons t i 0 h, eq-eqb (get_or t i 0) 10 e) refl
-
-  passed_at : (i : ℕ) → i < length t → (get_or t i 0 ≡ 10 → ⊥) → newline_at (drop i t) ≡ suc (newline_at (drop (suc i) t))
-  unfolding newline_at
-  passed_at i h e = rw (drop-cons t i 0 h, ne_eqb (get_or t i 0) 10 e) refl
-
   pub seeking_found : (i : ℕ) → Seeking t from i → i < length t → get_or t i 0 ≡ 10 → i ≡ from + newline_at (drop from t)
-  seeking_found i r h e = omega (arith, r.sums, found_at i h e)
+  seeking_found i r h e = omega (arith, r.sums, found t i h e)
 
   pub seeking_more : (i : ℕ) → Seeking t from i → i < length t → (get_or t i 0 ≡ 10 → ⊥) → Seeking t from (i + 1)
-  seeking_more i r h e = record { upto = omega arith; sums = rw add-one (omega (arith, r.sums, passed_at i h e)) }
+  seeking_more i r h e = record { upto = omega arith; sums = rw add-one (omega (arith, r.sums, past_one t i h e)) }
 
   pub seeking_end : (i : ℕ) → Seeking t from i → length t ≤ i → i ≡ from + newline_at (drop from t)
   seeking_end i r h = omega (arith, r.sums, past t i h)

@@ -54,6 +54,7 @@ pub fn newline_from(text: &[u8], from: usize) -> usize
         let rest = &text[near..];
         return near + memchr(b'\n', rest).unwrap_or(rest.len());
     }
+    // Fewer than eight are left before the newline or the end.
     for i in near..text.len() {
         if text[i] == b'\n' {
             return i;

@@ -5,8 +5,7 @@ use borrow.Rule.Slice.PartMut.{put_mid}
 use Rattle.std.proofs.Math.Seq.{take-append_seam, drop-append_seam}
 use Rattle.hex_digits.specs.Digits.{digits}
 use Rattle.hex_digits.specs.Output.{Output, newline, output, printed}
-use Rattle.hex_digits.proofs.OutputLaws.{length_written, room_printed, on_printed, printed_none, copied}
-use Rattle.board_lines.proofs.AnswerLaws.{filled}
+use Rattle.hex_digits.proofs.OutputLaws.{length_written, room_printed, on_printed, printed_none, copied, buffer_filled}
 use Rattle.lines.specs.Texts.{lines_text}
 use Rattle.lines.proofs.CarryLaws.{least_is, least_take, least_drop}
 use Rattle.records_lines.specs.Conversions.{store_frame, frames_from, frames_of}
@@ -28,7 +27,7 @@ length_frame a d =
 pub frame_filled : (d : List ℕ) (v : ℕ) (o : List ℕ) (w x y z : Output) → length o ≡ length d + 11 → w ≡ printed (digits 2 2) (output o 0)
     → x ≡ printed (digits 8 v) w → y ≡ printed d x → z ≡ printed (newline ∷ []) y → z.bytes ≡ store_frame v d ++ newline ∷ []
 frame_filled d v o w x y z h e f g i =
-    filled (store_frame v d ++ newline ∷ []) o z (length_frame v d ∙ sym h) (frame_put (output o 0) w x y z d v (omega (arith, h)) e f g i)
+    buffer_filled (store_frame v d ++ newline ∷ []) o z (length_frame v d ∙ sym h) (frame_put (output o 0) w x y z d v (omega (arith, h)) e f g i)
 
 pub frame_placed : (o : Output) (d : List ℕ) (v : ℕ) (y x : List ℕ) → o.place + length d + 11 ≤ length o.bytes → y ≡ store_frame v d ++ newline ∷ []
     → x ≡ put_mid o.place (o.place + length d + 11 - o.place) o.bytes y

@@ -1,4 +1,5 @@
-use Rattle.board_lines.proofs.AnswerLaws.{ran_filled, on_loan}
+use Rattle.hex_digits.proofs.OutputLaws.{on_loan}
+use Rattle.board_lines.proofs.AnswerLaws.{ran_filled}
 use Rattle.std.proofs.Common.{rules, sym, ◌∙◌}
 use Rattle.board_lines.proofs.answers.write_ran.Goals as goal
 

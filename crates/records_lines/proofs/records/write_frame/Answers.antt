@@ -1,4 +1,4 @@
-use Rattle.board_lines.proofs.AnswerLaws.{on_loan}
+use Rattle.hex_digits.proofs.OutputLaws.{on_loan}
 use Rattle.records_lines.proofs.FrameLaws.{frame_filled}
 use Rattle.std.proofs.Common.{rules, sym, ◌∙◌}
 use Rattle.records_lines.proofs.records.write_frame.Goals as goal
