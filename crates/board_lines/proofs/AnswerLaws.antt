@@ -13,9 +13,19 @@ use Rattle.board_lines.proofs.TotalsLaws.{refused_added, ran_added, tallied_whol
 module _ (o : Output) (t : Bool) where
   -- 82
   module _ (r l : ℕ) (g : t ≡ leb (o.place + 13) (length o.bytes)) where
-    pub refusal_put : (y x : List ℕ) → t ≡ true → y ≡ refused_line r l → x ≡ put_mid o.place (o.place + 13 - o.place) o.bytes y
+    -- part after part
+    pub refusal_put : (a b c d : Output) → t ≡ true → a ≡ printed (digits 2 0x82) o → b ≡ printed (digits 2 r) a
+        → c ≡ printed (digits 8 l) b → d ≡ printed (10 ∷ []) c → d ≡ printed (refused_line r l) o
+    refusal_put a b c d h e f i j =
+        let k = leb-true _ _ (sym g ∙ h) in
+        let q = on_printed (digits 2 0x82) (digits 2 r) o a b 2 2 refl refl (omega (arith, k)) e f in
+        let q = on_printed (digits 2 0x82 ++ digits 2 r) (digits 8 l) o b c 4 8 refl refl (omega (arith, k)) q i in
+        on_printed (digits 2 0x82 ++ digits 2 r ++ digits 8 l) (10 ∷ []) o c d 12 1 refl refl (omega (arith, k)) q j
+
+    -- from a buffer of its size
+    pub refusal_copied : (y x : List ℕ) → t ≡ true → y ≡ refused_line r l → x ≡ put_mid o.place (o.place + 13 - o.place) o.bytes y
         → output x (o.place + 13) ≡ printed (refused_line r l) o
-    refusal_put y x h e f = copied (refused_line r l) o.bytes y x o.place t g h e f
+    refusal_copied y x h e f = copied (refused_line r l) o.bytes y x o.place t g h e f
 
     pub refusal_left : t ≡ false → o ≡ printed (refused_line r l) o
     refusal_left h = left_out (refused_line r l) o.bytes o.place 13 t refl g h
@@ -78,11 +88,8 @@ unless_refused_law n (suc r) q x h e = e
 pub refused_filled : (r l : ℕ) (o : List ℕ) (u v w e : Output) → length o ≡ 13 → u ≡ printed (digits 2 0x82) (output o 0)
     → v ≡ printed (digits 2 r) u → w ≡ printed (digits 8 l) v → e ≡ printed (10 ∷ []) w → e.bytes ≡ refused_line r l
 refused_filled r l o u v w e i f₁ f₂ f₃ f₄ =
-    let s : Output = output o 0 in
-    let q = on_printed (digits 2 0x82) (digits 2 r) s u v 2 2 refl refl (omega (arith, i)) f₁ f₂ in
-    let q = on_printed (digits 2 0x82 ++ digits 2 r) (digits 8 l) s v w 4 8 refl refl (omega (arith, i)) q f₃ in
-    let q = on_printed (digits 2 0x82 ++ digits 2 r ++ digits 8 l) (10 ∷ []) s w e 12 1 refl refl (omega (arith, i)) q f₄ in
-    buffer_filled (refused_line r l) o e (sym i) q
+    let room : true ≡ leb 13 (length o) = sym (le-leb 13 (length o) (omega (arith, i))) in
+    buffer_filled (refused_line r l) o e (sym i) (refusal_put (output o 0) true r l room u v w e refl f₁ f₂ f₃ f₄)
 
 pub ran_filled : (n a b c d : ℕ) (o : List ℕ) (u v w x y z e : Output) → length o ≡ 31 → u ≡ printed (digits 2 0x83) (output o 0)
     → v ≡ printed (digits 8 n) u → w ≡ printed (digits 2 a) v → x ≡ printed (digits 2 b) w → y ≡ printed (digits 8 c) x

@@ -21,7 +21,7 @@ use Rattle.board_conversation.proofs.LoopLaws.{end_lines, ending, stream}
 use Rattle.board_conversation.proofs.RoomLaws.{answered_over, exchange_fits, exchange_printed, end_fits, end_printed}
 use Rattle.isolation_board.specs.Calls.{LentBoard, ExchangeCall, LastCall}
 use Rattle.isolation_board.specs.Exchanges.{Between, board_of, bytes_kept, after_exchange, Exchanging, Exchanges, after_all, End}
-use Rattle.isolation_board.specs.Program.{handed, handed_by, handed_last, first, RoomFor, RoomAtEnd, NoMore, ProgramBegins, ProgramPrints, ProgramServes}
+use Rattle.isolation_board.specs.Program.{handed, handed_by, handed_last, first, RoomFor, RoomAtEnd, NoMore, Served, ProgramBegins, ProgramPrints, ProgramServes}
 use Rattle.isolation_board.proofs.Exchanges.{io_by, cleared_by, exchange_by, exchange_said, end_said}
 
 -- what a write is handed of a board's buffer
@@ -145,16 +145,7 @@ program_prints c m o reads s =
 -- ---- calls that the contracts allow
 
 pub program_serves : ProgramServes
-program_serves p c m o input e h g =
-    record {
-      calls = call ∷ [];
-      last = last_call;
-      exchanges = (record { number = refl; bytes = take-length input; answers = λ _. (refl, exchange_allowed) }, tt);
-      room = (h, tt);
-      no_more = e;
-      at_end = record { number = refl; bytes = refl; answers = λ _. (refl, refl) };
-      room_at_end = room_left;
-    }
+program_serves p c m o input e h g = record { served = served; in_place = (refl, tt); last_in_place = refl }
   where
     after : Exchange
     after = exchange_of 0 input (board_io (board c m) (printout (output o.bytes 0) start_tally))
@@ -201,3 +192,15 @@ program_serves p c m o input e h g =
         ap (λ (d : BoardIo). length d.printout.output.bytes) (exchange_printed 0 input (board c m) o.bytes start_tally h)
         ∙ length_written (conversation 1 (exchange_lines input) (board c m)).printed o.bytes 0 in
         omega (arith, whole-rest, kept, length-take most_carried rest, same, g)
+
+    served : Served c m o (input ∷ [])
+    served =
+        record {
+          calls = call ∷ [];
+          last = last_call;
+          exchanges = (record { number = refl; bytes = take-length input; answers = λ _. (refl, exchange_allowed) }, tt);
+          room = (h, tt);
+          no_more = e;
+          at_end = record { number = refl; bytes = refl; answers = λ _. (refl, refl) };
+          room_at_end = room_left;
+        }

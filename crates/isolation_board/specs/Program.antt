@@ -82,9 +82,20 @@ ProgramBegins =
     → Exchanges (first c m o) reads calls → RoomFor (first c m o) reads calls
     → (more : List ℕ) → take (length (handed_by calls)) (program_on (board c m) (whole reads ++ more)) ≡ handed_by calls
 
+-- the buffer is left where it was lent
+abbrev pub LeftInPlace : List ExchangeCall → Type 0
+LeftInPlace [] = Unit {0}
+LeftInPlace (x ∷ xs) = (x.left_at ≡ x.places.buffer) × LeftInPlace xs
+
+pub record ServedInPlace (c : Cpu) (m : Memory) (o : Output) (reads : List (List ℕ)) : Type 0 where
+  pub served : Served c m o reads
+  pub in_place : LeftInPlace served.calls
+  pub last_in_place : served.last.left_at ≡ served.last.places.buffer
+
 -- there are such calls: the contracts allow them for every input that is read at once and leaves no line that ends, where the
--- buffer has the room
+-- buffer has the room, and allow that the buffer is left in its place
 abbrev pub ProgramServes : Type 0
 ProgramServes =
     ExchangePlaces → (c : Cpu) (m : Memory) (o : Output) (input : List ℕ) → ends_line (drop (size_of (exchange_lines input)) input) ≡ false
-    → length input * most_printed ≤ length o.bytes → suc most_carried * most_printed + totals_size ≤ length o.bytes → Served c m o (input ∷ [])
+    → length input * most_printed ≤ length o.bytes → suc most_carried * most_printed + totals_size ≤ length o.bytes
+    → ServedInPlace c m o (input ∷ [])

@@ -23,6 +23,10 @@ pub record Converting (w : Way) (t : List ℕ) (p₀ : Progress) (o : Output) (l
   pub ends : to ≡ from + newline_at (drop from t)
   pub done : lines_done w (ended_lines (drop from t)) (progress o last false) ≡ lines_done w (ended_lines t) p₀
   pub place : from + size_of (ended_lines (drop from t)) ≡ size_of (ended_lines t)
+
+-- and so the refusal that ends the work is one of what is left
+pub record Unrefused (w : Way) (t : List ℕ) (p₀ : Progress) (o : Output) (last from to : ℕ) : Type 0 where
+  pub converting : Converting w t p₀ o last from to
   pub refusal : refused_with w (ended_lines (drop from t)) ≡ refused_with w (ended_lines t)
 
 module _ (w : Way) (t : List ℕ) (p₀ : Progress) (o : Output) (last from to : ℕ) (r : Converting w t p₀ o last from to) where
@@ -36,10 +40,6 @@ module _ (w : Way) (t : List ℕ) (p₀ : Progress) (o : Output) (last from to :
       let s : size_of (ended_lines (drop from t)) ≡ 0 = ap size_of none in
       let f : from ≡ size_of (ended_lines t) = omega (arith, r.place, s) in
       (λ i. block_done (p i) (cond (p i).over (length t) (f i)))
-
-  pub none_refused : length t ≤ to → 0 ≡ refused_with w (ended_lines t)
-  unfolding refused_with
-  none_refused h = sym (ap (refused_with w) (ended_none (drop from t) (none_from t from to r.ends h))) ∙ r.refusal
 
   module _ (h : to < length t) where
     abbrev line : List ℕ
@@ -57,16 +57,6 @@ module _ (w : Way) (t : List ℕ) (p₀ : Progress) (o : Output) (last from to :
         ∙ sym (ap (λ (l : List (List ℕ)). lines_done w l (progress o last false)) first)
         ∙ r.done
 
-    -- the line's refusal, or that of the others
-    next_refusal : (n : ℕ) → n ≡ (converted_by w line).refusal
-        → cond (eqb n 0) (refused_with w (ended_lines (drop (to + 1) t))) n ≡ refused_with w (ended_lines t)
-    unfolding refused_with
-    next_refusal n e =
-        ap (λ (m : ℕ). cond (eqb m 0) (refused_with w (ended_lines (drop (to + 1) t))) m) e ∙ sym (ap (refused_with w) first) ∙ r.refusal
-
-    pub line_refusal : (n : Refusal) → number_of n ≡ (converted_by w line).refusal → number_of n ≡ refused_with w (ended_lines t)
-    line_refusal n e = rw (ne_eqb (number_of n) 0 (is_refusal n)) at (next_refusal (number_of n) e)
-
     module _ (o' : Output) (i : ℕ) where
       pub converting_refused : progress o' i true ≡ line_done (converted_by w line) (progress o last false)
           → block_done (progress o' i true) (length t) ≡ block_from w t p₀
@@ -75,10 +65,10 @@ module _ (w : Way) (t : List ℕ) (p₀ : Progress) (o : Output) (last from to :
           sym (nothing_more w (ended_lines (drop (to + 1) t)) (progress o' i true) refl) ∙ next_done (progress o' i true) e in
           (λ k. block_done (p k) (cond (p k).over (length t) (size_of (ended_lines t))))
 
-      pub converting_more : progress o' i false ≡ line_done (converted_by w line) (progress o last false) → 0 ≡ (converted_by w line).refusal
+      pub converting_more : progress o' i false ≡ line_done (converted_by w line) (progress o last false)
           → (to' : ℕ) → to' ≡ to + 1 + newline_at (drop (to + 1) t) → Converting w t p₀ o' i (to + 1) to'
       unfolding size_of
-      converting_more e z to' k =
+      converting_more e to' k =
           record {
             upto = omega arith;
             ends = k;
@@ -86,5 +76,34 @@ module _ (w : Way) (t : List ℕ) (p₀ : Progress) (o : Output) (last from to :
             place =
                 let s : size_of (ended_lines (drop from t)) ≡ suc (length line) + size_of (ended_lines (drop (to + 1) t)) = ap size_of first in
                 omega (arith, r.place, s, width_from t from to r.ends h, r.ends);
-            refusal = next_refusal 0 z;
           }
+
+-- ---- the refusal
+
+module _ (w : Way) (t : List ℕ) (p₀ : Progress) (o : Output) (last from to : ℕ) (r : Unrefused w t p₀ o last from to) where
+  pub none_refused : length t ≤ to → 0 ≡ refused_with w (ended_lines t)
+  unfolding refused_with
+  none_refused h = sym (ap (refused_with w) (ended_none (drop from t) (none_from t from to r.converting.ends h))) ∙ r.refusal
+
+  module _ (h : to < length t) where
+    abbrev next_line : List ℕ
+    next_line = line w t p₀ o last from to r.converting h
+
+    -- the line's refusal, or that of the others
+    next_refusal : (n : ℕ) → n ≡ (converted_by w next_line).refusal
+        → cond (eqb n 0) (refused_with w (ended_lines (drop (to + 1) t))) n ≡ refused_with w (ended_lines t)
+    unfolding refused_with
+    next_refusal n e =
+        ap (λ (m : ℕ). cond (eqb m 0) (refused_with w (ended_lines (drop (to + 1) t))) m) e
+        ∙ sym (ap (refused_with w) (first w t p₀ o last from to r.converting h))
+        ∙ r.refusal
+
+    pub line_refusal : (n : Refusal) → number_of n ≡ (converted_by w next_line).refusal → number_of n ≡ refused_with w (ended_lines t)
+    line_refusal n e = rw (ne_eqb (number_of n) 0 (is_refusal n)) at (next_refusal (number_of n) e)
+
+    module _ (o' : Output) (i : ℕ) where
+      pub unrefused_more : progress o' i false ≡ line_done (converted_by w next_line) (progress o last false)
+          → 0 ≡ (converted_by w next_line).refusal → (to' : ℕ) → to' ≡ to + 1 + newline_at (drop (to + 1) t)
+          → Unrefused w t p₀ o' i (to + 1) to'
+      unrefused_more e z to' k =
+          record { converting = converting_more w t p₀ o last from to r.converting h o' i e to' k; refusal = next_refusal 0 z }

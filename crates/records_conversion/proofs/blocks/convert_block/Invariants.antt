@@ -1,4 +1,4 @@
-use Rattle.records_conversion.proofs.BlockLaws.{Converting}
+use Rattle.records_conversion.proofs.BlockLaws.{Unrefused}
 use Rattle.records_conversion.specs.Loop.{progress}
 use Rattle.hex_digits.specs.Output.{contents}
 use Rattle.std.proofs.Common.{◌≡◌, ◌-◌, false, length}
@@ -6,7 +6,7 @@ use Rattle.records_conversion.proofs.blocks.convert_block.Given as goal
 
 abbrev pub invariant-loop-to : goal.invariant-loop-to
 invariant-loop-to l =
-    Converting l.way l.text (progress (contents l.initial.output) l.initial.last false) (contents l.output) l.last l.from l.to
+    Unrefused l.way l.text (progress (contents l.initial.output) l.initial.last false) (contents l.output) l.last l.from l.to
     × (l.output.buffer.ghost_name ≡ l.initial.output.buffer.ghost_name)
 
 abbrev pub decreases-loop-to : goal.decreases-loop-to
