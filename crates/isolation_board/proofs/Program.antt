@@ -7,6 +7,7 @@ use mathlib.Core.List.{List, [], ◌∷◌, ◌++◌, append_assoc, append-nil}
 use native.Mathlib.Omega.{arith}
 use lib.ListN.{length, take, drop, length-take}
 use lib.Seq.{take-length, take-append_seam}
+use Rattle.word.proofs.ListLaws.{no_others, ◌also◌}
 use Rattle.run_spec.specs.Run.{board}
 use Rattle.hex_digits.proofs.OutputLaws.{length_written, printed_front}
 use Rattle.lines.specs.Texts.{lines_of, next, size_of, last_line, whole}
@@ -145,7 +146,7 @@ program_prints c m o reads s =
 -- ---- calls that the contracts allow
 
 pub program_serves : ProgramServes
-program_serves p c m o input e h g = record { served = served; in_place = (refl, tt); last_in_place = refl }
+program_serves p c m o input e h g = record { served = served; in_place = refl also no_others; last_in_place = refl }
   where
     after : Exchange
     after = exchange_of 0 input (board_io (board c m) (printout (output o.bytes 0) start_tally))

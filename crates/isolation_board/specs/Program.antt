@@ -2,6 +2,7 @@
 -- the writes, by the contracts that they export, is what the definition prints, totals too.
 -- Assumes nothing.
 use Rattle.std.specs.Prelude.{ℕ, suc, ◌+◌, ◌*◌, ◌≤◌, ◌≡◌, false, List, [], ◌∷◌, ◌++◌, length, take, drop}
+use Rattle.word.proofs.ListLaws.{Each}
 use Rattle.memory.specs.Bytes.{Memory}
 use Rattle.machine.specs.Status.{Cpu}
 use Rattle.run_spec.specs.Run.{board}
@@ -82,14 +83,10 @@ ProgramBegins =
     → Exchanges (first c m o) reads calls → RoomFor (first c m o) reads calls
     → (more : List ℕ) → take (length (handed_by calls)) (program_on (board c m) (whole reads ++ more)) ≡ handed_by calls
 
--- the buffer is left where it was lent
-abbrev pub LeftInPlace : List ExchangeCall → Type 0
-LeftInPlace [] = Unit {0}
-LeftInPlace (x ∷ xs) = (x.left_at ≡ x.places.buffer) × LeftInPlace xs
-
+-- each call leaves the buffer where it was lent
 pub record ServedInPlace (c : Cpu) (m : Memory) (o : Output) (reads : List (List ℕ)) : Type 0 where
   pub served : Served c m o reads
-  pub in_place : LeftInPlace served.calls
+  pub in_place : Each (λ (x : ExchangeCall). x.left_at ≡ x.places.buffer) served.calls
   pub last_in_place : served.last.left_at ≡ served.last.places.buffer
 
 -- there are such calls: the contracts allow them for every input that is read at once and leaves no line that ends, where the
